@@ -1,4 +1,4 @@
-//! Holds the text of tables in standard input against the shared declarations.
+//! Compares the text of tables in standard input with the shared declarations.
 #![tactic(auto)]
 
 use meta_audit::audit_run;
@@ -28,7 +28,7 @@ const MANUAL: Manual = Manual {
     commands: &[],
 };
 
-/// Audits the text beside the shared declarations.
+/// Audits the text for the shared declarations.
 #[derive(Clone, Copy)]
 struct Shared;
 

@@ -24,7 +24,7 @@ fn tell_line(rt: &HostRuntime, line: &str) {
     let _ = eprintln!(rt; "{name}: {line}");
 }
 
-/// Says a line that was made; where there was no room for it, what this ending is about.
+/// Says a line that was made. If memory ran out for it, says what this ending is about.
 fn tell_made(rt: &HostRuntime, line: Result<String, AllocError>, instead: Ending) {
     match line {
         Ok(line) => tell_line(rt, &line),
@@ -105,13 +105,11 @@ fn printed(rt: &HostRuntime, outcome: io::Result<()>) -> u8 {
     ending.code()
 }
 
-/// Prints the help.
 fn print_help(rt: &HostRuntime) -> u8 {
     let help = MANUAL.help;
     printed(rt, println!(rt; "{help}"))
 }
 
-/// Prints the version.
 fn print_version(rt: &HostRuntime) -> u8 {
     let (name, version) = (MANUAL.name, MANUAL.version);
     printed(rt, println!(rt; "{name} {version}"))
@@ -145,7 +143,7 @@ fn run_over(rt: &HostRuntime, path: &Text, tool: Tool) -> FileEnding {
     )
 }
 
-/// Checks the file at a path, where names that Rust refuses are told or refused.
+/// Checks the file at a path. Names that Rust refuses are reported, or the file is refused for them.
 fn check_over(rt: &HostRuntime, path: &Text, names: Names) -> CheckEnding {
     let Ok(file) = File::open(rt, path.as_str()) else {
         return CheckEnding::FileFault;

@@ -1,4 +1,4 @@
--- What was written in the short form reads as the list that it was written of.
+-- A text that was written in the short form reads as the list from which it was written.
 use Rattle.std.proofs.Common.{◌≡◌, ◌≢◌, ◌↔◌, inl, inr, ℕ, zero, suc, ◌-◌, ◌<◌, ◌≤◌, ◌==◌, Bool, true, false, List, [], ◌∷◌, ◌++◌, map}
 use Rattle.std.proofs.Common.{length, get_or, slice_index, All, Some, codes, refl, sym, ap, ap₂, ◌∙◌, subst, append_assoc, arith, rules}
 use Rattle.std.proofs.Common.{tests}
@@ -35,7 +35,7 @@ use Rattle.meta_asm.proofs.OneOutput.{one_reading, reads_all}
 
 -- ---- the lines of what was written
 
--- a line without CR is as it is
+-- a line without CR stays as it is
 stripped : (line : List ℕ) → Lacks 13 line → strip_carriage_return line ≡ line
 stripped [] h = refl
 stripped (c ∷ cs) h =
@@ -59,7 +59,7 @@ lines_back (l ∷ ls) h =
     ap lines_of_pieces pieces ∙ ap₂ ◌∷◌ (stripped l plain.return) (ap lines_of_pieces (sym more.is)
     ∙ lines_back ls (All-tail IsPlainLine l ls h))
 
--- and none of them is skipped
+-- if no line is empty, none is skipped
 pub all_filled : (lines : List (List ℕ)) → All (λ l. l ≢ []) lines → filled lines ≡ lines
 all_filled [] h = refl
 all_filled ([] ∷ ls) h = absurd (All-head (λ l. l ≢ []) [] ls h refl)
@@ -121,7 +121,7 @@ parameter_lacks byte h r can =
     (All-append (λ b. b ≢ byte) (value_text r.value) (32 ∷ name_of r.type) (value_lacks byte r.value (low_mark byte h) can.value)
     (All-cons (λ b. b ≢ byte) 32 (name_of r.type) (λ e. omega (arith, h, e)) (type_lacks byte r.type (low_mark byte h) can.is_type)))
 
--- where the names of what is accepted have name bytes alone, and a text reads as one line at most
+-- if the names of what is accepted have name bytes alone, and a text reads as at most one line
 module _ (R : Replies) (M : Manners) (bytes : (env : Environment) (a : Application) → IsAccepted R env (OfApplication a)
     → All IsNameByte a.name) (one : (env : Environment) (text a b : List ℕ) → IsShort R M env a text → IsShort R M env b text → a ≡ b) where
   stated_lacks : (byte : ℕ) → byte < 32 → (env : Environment) (line : List ℕ) (m : Manner) (s : Statement) → IsRight R env line s
@@ -150,7 +150,7 @@ module _ (R : Replies) (M : Manners) (bytes : (env : Environment) (a : Applicati
   texts_filled env env' (l ∷ ls) (t ∷ ts) (short, rest) =
       All-cons (λ t. t ≢ []) t ts (has_text R M env l t short) (texts_filled (with_values env (defined_by short.statement)) env' ls ts rest)
 
-  -- ---- what was written so is written back
+  -- ---- a list that was written in the short form is written back
 
   -- the lines of what was written are the texts, and none of them is skipped
   filled_back : (lines texts : List (List ℕ)) (env : Environment) (out : List ℕ) → AreShort R M nothing_defined lines texts env

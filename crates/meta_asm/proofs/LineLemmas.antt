@@ -29,7 +29,7 @@ lacks_join byte sep (t ∷ u ∷ us) other h =
     (All-cons (λ b. b ≢ byte) sep (join_with_byte sep (u ∷ us)) other
     (lacks_join byte sep (u ∷ us) other (All-tail (Lacks byte) t (u ∷ us) h)))
 
--- a mark that is none of those in words
+-- a mark that doesn't stand in words
 pub record IsOther (byte : ℕ) : Type 0 where
   pub mark : IsMark byte
   pub dash : 45 ≢ byte

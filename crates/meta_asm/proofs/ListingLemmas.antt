@@ -20,7 +20,7 @@ use Rattle.meta_short.specs.Reading.{Manners, IsShort, IsShortIn}
 use Rattle.meta_asm.specs.Listing.{text_of_lines, filled, AreShort, AreShortForms, AddsShortForm, AddsLine, IsFirstUnread}
 use Rattle.meta_asm.proofs.ReaderLemmas.{right_line}
 
--- one line more, behind the others
+-- one line more, after the others
 pub one_more : (R : Replies) (M : Manners) (env between : Environment) (lines texts : List (List ℕ)) (line text : List ℕ)
     → AreShort R M env lines texts between → (short : IsShort R M between line text)
     → AreShort R M env (lines ++ line ∷ []) (texts ++ text ∷ []) (with_values between (defined_by short.statement))
@@ -163,7 +163,7 @@ module _ (tables : TableContents) where
     out_is = is ∙ text_more h.lines line out h.out_is;
   }
 
-  -- the next reads as none
+  -- the next reads as no line
   pub first_unread : (texts : List (List ℕ)) (n : ℕ) (env : Environment) (text out : List ℕ) → AreRead texts n env out
       → slice_get texts n ≡ Some text → text ≢ [] → ((line : List ℕ) → IsShortIn tables env line text → ⊥)
       → IsFirstUnread (AllowedReply tables) (IsMannerIn tables) texts n
@@ -216,7 +216,7 @@ module _ (tables : TableContents) where
             ∙ append_assoc out line (10 ∷ []),
       )
 
--- none is left
+-- no line is left
 past : (lines : List (List ℕ)) (n : ℕ) → drop n lines ≡ [] → take n lines ≡ lines
 past [] zero e = refl
 past [] (suc n) e = refl

@@ -1,4 +1,4 @@
--- An input is written in a form in one way at most.
+-- An input is written in a form in at most one way.
 use Rattle.std.proofs.Common.{◌≡◌, ◌≢◌, ◌⊎◌, inl, inr, ℕ, zero, suc, ◌+◌, ◌<◌, Bool, true, false, List, [], ◌∷◌, take, slice_get, Option}
 use Rattle.std.proofs.Common.{None, Some, codes, refl, sym, ap, ap₂, ◌∙◌, subst, arith}
 use Rattle.std.proofs.lemmas.Bool.{cases_order}
@@ -18,7 +18,7 @@ use Rattle.meta_asm.specs.Form.{words_for}
 use Rattle.meta_asm.specs.declared.form.Form.{Form}
 use Rattle.meta_asm.specs.declared.form.Form.TheVariants.{Short, Explicit}
 
--- the words ask for one form at most
+-- the words ask for at most one form
 pub one_form : (words : List (List ℕ)) (a b : Form) → words ≡ words_for a → words ≡ words_for b → a ≡ b
 one_form words Short Short e f = refl
 one_form words Short Explicit e f = let same : codes "short" ∷ [] ≡ codes "explicit" ∷ [] = sym e ∙ f in absurd (cc)
@@ -26,7 +26,7 @@ one_form words Explicit Short e f = let same : codes "explicit" ∷ [] ≡ codes
 one_form words Explicit Explicit e f = refl
 
 module _ (R : Replies) (M : Manners) (stated : (line : List ℕ) (s t : Statement) → IsStatement line s → IsStatement line t → s ≡ t) where
-  -- ---- the explicit form, where a text reads as one line at most
+  -- ---- the explicit form, if a text reads as at most one line
 
   module _ (one : (env : Environment) (text a b : List ℕ) → IsShort R M env a text → IsShort R M env b text → a ≡ b) where
     -- the lines that texts read as are one
@@ -45,7 +45,7 @@ module _ (R : Replies) (M : Manners) (stated : (line : List ℕ) (s t : Statemen
         (subst (λ s. AreShort R M (with_values env (defined_by s)) ls ts e) same rest) others in
         (ap₂ ◌∷◌ line both.0, both.1)
 
-    -- behind the texts before it a text that isn't empty reads as a line
+    -- after the texts before it a text that isn't empty reads as a line
     pub record ReadsNext (env : Environment) (texts : List (List ℕ)) (n : ℕ) (text : List ℕ) : Type 0 where
       pub before : List (List ℕ)
       pub between : Environment
@@ -67,7 +67,7 @@ module _ (R : Replies) (M : Manners) (stated : (line : List ℕ) (s t : Statemen
         let more = each_reads (with_values env (defined_by short.statement)) env' ls ts n text rest at some in
         record { before = l ∷ more.before; between = more.between; short = (short, more.short); line = more.line; reads = more.reads }
 
-    -- so where all read, none is the first that reads as none
+    -- if all texts read as lines, there is no first text that reads as none
     pub reads_all : (lines texts : List (List ℕ)) (env : Environment) (n : ℕ) → AreShort R M nothing_defined lines (filled texts) env
         → IsFirstUnread R M texts n → ⊥
     reads_all lines texts env n h first =
@@ -76,7 +76,7 @@ module _ (R : Replies) (M : Manners) (stated : (line : List ℕ) (s t : Statemen
         (filled (take n texts)) first.reads next.short in
         first.unread next.line (subst (λ e. IsShort R M e next.line first.text) (sym same.1) next.reads)
 
-    -- of two such texts neither stands before the other
+    -- neither of two such texts comes before the other
     none_earlier : (texts : List (List ℕ)) (n m : ℕ) → n < m → IsFirstUnread R M texts n → IsFirstUnread R M texts m → ⊥
     none_earlier texts n m l h g = reads_all g.lines (take m texts) g.before n g.reads (record {
       text = h.text;
@@ -105,7 +105,7 @@ module _ (R : Replies) (M : Manners) (stated : (line : List ℕ) (s t : Statemen
     one_spelled input true true s t (n, first, is) (m, also, too) =
         (refl, is ∙ ap (λ (k : ℕ). wrong_text (k + 1) Bad) (one_unread (lines_of input) n m first also) ∙ sym too)
 
-  -- ---- the short form, where a line has one short form and one answer at most, and an input one verdict
+  -- ---- the short form, if a line has at most one short form and one answer, and an input one verdict
 
   module _ (one : (env : Environment) (line a b : List ℕ) → IsShort R M env line a → IsShort R M env line b → a ≡ b)
       (one_fed : (env e f : Environment) (line : List ℕ) (a b : Option Reason) → Feeds R env line a e → Feeds R env line b f
@@ -124,7 +124,7 @@ module _ (R : Replies) (M : Manners) (stated : (line : List ℕ) (s t : Statemen
         ap₂ ◌∷◌ (one env l t u short also) (one_writing (with_values env (defined_by also.statement)) e f ls ts us
         (subst (λ s. AreShort R M (with_values env (defined_by s)) ls ts e) same rest) others)
 
-    -- where each line but the empty ones has a short form, none is wrong
+    -- if each line that isn't empty has a short form, no line is wrong
     none_wrong : (env env' before behind : Environment) (lines texts : List (List ℕ)) (n : ℕ) (line : List ℕ) (reason : Reason)
         → AreShort R M env (filled lines) texts env'
         → slice_get lines n ≡ Some line → LeadTo R env (take n lines) before → Feeds R before line (Some reason) behind → ⊥

@@ -45,7 +45,7 @@ module _ {X : Type 0} (now : X → List ℕ) (text first : List ℕ) (rest : Opt
       let nothing : option_map now rest ≡ None = ap (option_map now) none in
       absurd (cc)
 
-  -- where there is one, these stand before it, and the rest behind it
+  -- if there is a `=`, the results stand before it, and the rest after it
   module _ (r : X) (some : rest ≡ Some r) (list applied : List ℕ) (before : (front : List ℕ) → first ≡ front ++ 32 ∷ []
       → list ≡ front) (after : (others : List ℕ) → now r ≡ 32 ∷ others → applied ≡ others) where
     pub has_results : (ts : List (List ℕ)) (other : List ℕ) → All (Lacks 61) ts → Lacks 61 other → text ≡ results_part ts ++ other
@@ -66,7 +66,7 @@ module _ {X : Type 0} (now : X → List ℕ) (text first : List ℕ) (rest : Opt
 
 -- ---- the parts
 
--- what stands behind the results
+-- what stands after the results
 abbrev pub applied_part : Manner → Application → List ℕ
 applied_part m a =
     a.name ++ (behind 46 (control_written m.leaves_out a.control a.second) ++ behind 32 (values_written (map value_text a.values)))

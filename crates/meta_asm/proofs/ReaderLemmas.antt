@@ -155,7 +155,7 @@ module _ (tables : TableContents) (env : Environment) (op : ℕ) (entry : Opcode
       → slice_get tables.operand_constraints (entry.constraint_offset + k) ≡ Some x → get_or m.opened k false ≡ is_open x
   mark_at k x few at = ap (λ (y : Manner). get_or y.opened k false) h.manner ∙ mark_is tables entry k x few at
 
-  -- so the number that is given is that of its type
+  -- the number that is given is that of the result's type
   gives_one : (x : NumberConstraint) (n k : ℕ) → is_open x ≡ false
       → GivesNumber (both (option_map number_of a.control) (option_map number_of a.second)) x n
       → NumberPasses tables (both (option_map number_of a.control) (option_map number_of a.second)) x k → n ≡ k
@@ -239,12 +239,12 @@ line_is line made name control results values a states n c r v is =
 
 -- ---- a line that is right
 
--- it has bytes
+-- an empty line states nothing
 empty_states_nothing : (s : Statement) → IsStatement [] s → ⊥
 empty_states_nothing (OfParameter r) h = let e = pieces_are [] (OfParameter r) h in absurd (cc)
 empty_states_nothing (OfApplication a) h = let e = pieces_are [] (OfApplication a) h in absurd (cc)
 
--- and none of these holds of it
+-- a line with a short form is neither empty nor wrong
 pub right_line : (tables : TableContents) (env : Environment) (line text : List ℕ) → IsShortIn tables env line text
     → (line ≡ []) ⊎ ((reason : Reason) × IsWrong (AllowedReply tables) env line reason) → ⊥
 right_line tables env line text h (inl e) = empty_states_nothing h.statement (subst (λ l. IsStatement l h.statement) e h.right.0)
@@ -311,7 +311,7 @@ is_allowed tables env op entry m a c d h ce de none =
     (subst (λ x. Allows tables op (option_map number_of a.control) x (map number_of (map (λ (r : TypedValue). r.type) a.results))
     (map number_of h.types)) (sym de) h.allows))
 
--- what is given under its controls tells the types
+-- the results that are given under its controls give the types
 pub told : (tables : TableContents) (env : Environment) (op : ℕ) (entry : OpcodeNumbers) (m : Manner) (a : Application) (c d : Option ℕ)
     (numbers : List ℕ) → IsReadBy tables env op entry m a → c ≡ option_map number_of a.control → d ≡ option_map number_of a.second
     → GivesResults tables op c d numbers → TellTypes m.opened a.results numbers

@@ -30,7 +30,7 @@ module _ {X : Type 0} (now : X → List ℕ) (text first : List ℕ) (rest : Opt
   closed_rest : text ≡ short_result_text (shortened false r) → option_map now rest ≡ None
   closed_rest e = rest_is now 58 text first rest cut (value_text r.value) None (value_lacks 58 r.value colon is_typed.value) e
 
-  -- with a type behind a colon it is whole
+  -- with a type after a colon it is whole
   pub is_written : is_some rest ≡ true → (opened : Bool) → text ≡ short_result_text (shortened opened r) → text ≡ typed_text r
   is_written some true e = e
   is_written some false e = absurd (by rest some (closed_rest e))
@@ -39,7 +39,7 @@ module _ {X : Type 0} (now : X → List ℕ) (text first : List ℕ) (rest : Opt
       by None s n = cc
       by (Some x) s n = cc
 
-  -- and without it the number tells the type
+  -- without it the number gives the type
   pub isnt_written : is_some rest ≡ false → (opened : Bool) → text ≡ short_result_text (shortened opened r)
       → (opened ≡ false) × (text ≡ value_text r.value)
   isnt_written none true e = absurd (by rest none (open_rest e))
@@ -65,7 +65,7 @@ put_together before with_text with_colon after text r n found h number is second
 
 -- ---- the list
 
--- what is still to be added behind a word: the texts, with a comma before each but the first of all
+-- what is still to be added after a word: the texts, with a comma before each but the first of all
 abbrev pub still : List ℕ → List (List ℕ) → List ℕ
 still [] texts = join_with_byte 44 texts
 still (c ∷ cs) texts = flat_map (λ (t : List ℕ). 44 ∷ t) texts
@@ -82,11 +82,11 @@ one_more_text (w ∷ ws) c cs ts =
     append_assoc (w ∷ ws ++ 44 ∷ []) (c ∷ cs) (flat_map (λ (t : List ℕ). 44 ∷ t) ts)
     ∙ append_assoc (w ∷ ws) (44 ∷ []) (c ∷ cs ++ flat_map (λ (t : List ℕ). 44 ∷ t) ts)
 
--- a piece is a text, or the text behind a space
+-- a piece is a text, or the text after a space
 abbrev pub IsSpaced : List ℕ → List ℕ → Type 0
 IsSpaced piece text = (piece ≡ text) ⊎ (piece ≡ 32 ∷ text)
 
--- and so are all
+-- each piece is its text, or the text after a space
 abbrev pub AreSpaced : List (List ℕ) → List (List ℕ) → Type 0
 AreSpaced [] [] = ⊤
 AreSpaced [] (t ∷ ts) = ⊥
@@ -97,7 +97,7 @@ all_spaced : (ts : List (List ℕ)) → AreSpaced (map (λ (u : List ℕ). 32 �
 all_spaced [] = tt
 all_spaced (t ∷ ts) = (inr refl, all_spaced ts)
 
--- What is left of the results rs: those behind the ones whose texts the word has, their marks, and the numbers for them. The pieces are
+-- What is left of the results rs: those after the ones whose texts the word has, their marks, and the numbers for them. The pieces are
 -- their short texts.
 pub record AreLeft (rs : List TypedValue) (numbers : List ℕ) (pieces : List (List ℕ)) (word : List ℕ) : Type 0 where
   pub opened : List Bool
@@ -124,7 +124,7 @@ some_left opened r rs numbers list t ts typed tell are is =
       text = refl;
     }
 
--- all are left
+-- all results are left
 pub all_left : (opened : List Bool) (rs : List TypedValue) (numbers : List ℕ) (list : List ℕ) → All IsTyped rs
     → TellTypes opened rs numbers → Some list ≡ values_written (map short_result_text (short_results opened rs))
     → AreLeft rs numbers (pieces_of 44 list) []
@@ -193,7 +193,7 @@ module _ (rs : List TypedValue) (number : ℕ) (others : List ℕ) (piece : List
   one_result_more left h e = next h.opened h.results h.typed h.tell
       (subst (λ ps. AreSpaced ps (map short_result_text (short_results h.opened h.results))) e h.spaced) h.text
 
--- none is left
+-- no result is left
 pub none_left : (rs : List TypedValue) (numbers : List ℕ) (left : List (List ℕ)) (word : List ℕ) → AreLeft rs numbers left word → left ≡ []
     → word ≡ list_text (map typed_text rs)
 none_left rs numbers left word h e =

@@ -16,7 +16,7 @@ use Rattle.meta_asm.specs.declared.form.Form.TheVariants.{Short, Explicit}
 use Rattle.meta_asm.specs.Assembler.{NothingFails, WritesShortForms, WritesLines, SaysUnread, ShortensList, SpellsList, WritesBack}
 use Rattle.meta_asm.proofs.BackLemmas.{back_by_declarations}
 
--- the words ask for one form at most
+-- the words ask for at most one form
 pub one_form : {words : List (List ℕ)} (a b : Form) → words ≡ words_for a → words ≡ words_for b → a ≡ b
 one_form Short Short e f = refl
 one_form Short Explicit e f = let same : codes "short" ∷ [] ≡ codes "explicit" ∷ [] = sym e ∙ f in absurd (cc)

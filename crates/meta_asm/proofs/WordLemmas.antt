@@ -24,7 +24,7 @@ kept (b ∷ bs) h =
     let none : (b == 32) ≡ false = search (rules, tests) in
     rw none (ap (λ cs. b ∷ cs) (kept bs (All-tail (λ b. b ≢ 32) b bs h)))
 
--- nor have the texts behind the first, without the space before each
+-- nor do the texts after the first have spaces, without the space before each
 behind_kept : (t : List ℕ) (ts : List (List ℕ)) → All (Lacks 32) (t ∷ ts)
     → no_spaces (join_with_byte 44 (t ∷ map (λ (u : List ℕ). 32 ∷ u) ts)) ≡ join_with_byte 44 (t ∷ ts)
 behind_kept t [] h = kept t (All-head (Lacks 32) t [] h)

@@ -1,4 +1,4 @@
--- What is read of the words that are written beside the results.
+-- What is read of the words that are written apart from the results.
 use Rattle.std.proofs.Common.{◌≡◌, ℕ, ◌<◌, List, [], ◌∷◌, map, length, Option, None, Some, codes, sym, ap, ◌∙◌}
 use Rattle.std.specs.List.{join_with_byte}
 use Rattle.std.specs.Option.{option_map, unwrap_or}
@@ -15,7 +15,7 @@ use Rattle.meta_asm.specs.Written.{HasWritten}
 use Rattle.meta_asm.specs.declared.written.Written.{Written}
 use Rattle.meta_asm.proofs.LineLemmas.{shown, shown_states}
 
--- what stands behind the point, and `-` where nothing does
+-- what stands after the point, and `-` if there is nothing
 pub written_word : {X : Type 0} (now : X → List ℕ) (o : Option X) (w : Option (List ℕ)) (d : X) → now d ≡ codes "-" → option_map now o ≡ w
     → now (unwrap_or o d) ≡ unwrap_or w (codes "-")
 written_word now None None d dash e = dash
@@ -36,7 +36,7 @@ module _ (m : Manner) (a : spec.Application) (can : CanApply a) (plain : IsPlain
       ∙ ap (λ v. join_with_byte 32 (codes "line" ∷ a.name ∷ unwrap_or (control_written m.leaves_out a.control a.second) (codes "-")
       ∷ codes "-" ∷ v ∷ [])) values_are)
 
-  -- so that is what is read
+  -- what is shown is what is read
   pub has_written : (b : Application) → spec.IsStatement line (spec.OfApplication (applied b)) → HasNumbers b → (w : Written)
       → w.control ≡ b.control → w.second ≡ b.second → w.values ≡ b.values → HasWritten m a w
   has_written b states known w c s v =

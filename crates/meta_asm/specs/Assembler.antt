@@ -17,11 +17,11 @@ use Rattle.meta_asm.specs.Form.{words_for, written_in}
 use Rattle.meta_asm.specs.declared.form.Form.{Form}
 use Rattle.meta_asm.specs.declared.form.Form.TheVariants.{Short, Explicit}
 
--- a source and a sink, by what they tell, before and after a run over declarations
+-- a source and a sink, by what contracts see of them, before and after a run over declarations
 module _ {S K : Type 0} (left : S → Option (List ℕ)) (reads : S → ℕ) (taken : K → Option (List ℕ)) (writes : K → ℕ)
     (d : Declared) (s s' : S) (k k' : K) where
-  -- Nothing fails: memory didn't run out, the source told what it had left, which is at most the limit, the sink told what it had taken,
-  -- and no count rose.
+  -- Nothing fails: memory didn't run out, contracts see the bytes that the source had left, which are at most the limit, and those that the
+  -- sink had taken, and no count rose.
   abbrev pub NothingFails : List ℕ → List ℕ → Ending → Type 0
   NothingFails input before ending = (ending ≢ OutOfMemory) × IsGiven left reads taken writes d s s' k k' true input
       × (taken k ≡ Some before) × (Rose (writes k) (writes k') → ⊥)
@@ -46,21 +46,22 @@ module _ {S K : Type 0} (left : S → Option (List ℕ)) (reads : S → ℕ) (ta
       (ending ≡ Rejected) × (n : ℕ) × IsFirstUnread (AcceptedReply d.set) (IsMannerDeclared d.set) (lines_of input) n
       × (taken k' ≡ Some (before ++ wrong_text (n + 1) Bad))
 
-  -- Where the word is `short`, the declarations are valid, and nothing failed, the short forms are written of what was left, or which
-  -- line of it is the first wrong one, and why.
+  -- If the word is `short`, the declarations are valid, and nothing failed, then the short forms of the lines that were left are written,
+  -- or which of these is the first wrong one, and why.
   abbrev pub ShortensList : List (List ℕ) → Ending → Type 0
   ShortensList words ending =
       words ≡ words_for Short → AreValid d → (input before : List ℕ) → NothingFails input before ending
       → WritesShortForms input before ending ⊎ SaysWrong left reads taken writes d s s' k k' input before ending
 
-  -- Where the word is `explicit`, the lines are written that it reads as, or which text is the first that reads as none.
+  -- If the word is `explicit`, the declarations are valid, and nothing failed, then the lines are written that the input reads as, or which
+  -- text is the first that reads as no line.
   abbrev pub SpellsList : List (List ℕ) → Ending → Type 0
   SpellsList words ending =
       words ≡ words_for Explicit → AreValid d → (input before : List ℕ) → NothingFails input before ending
       → WritesLines input before ending ⊎ SaysUnread input before ending
 
-  -- Where the word is `explicit`, the declarations are valid, nothing failed, and the input is what `short` writes of a list that has no
-  -- wrong line: the run is done, and the sink took exactly the list itself, its lines but the empty ones, each with LF.
+  -- If the word is `explicit`, the declarations are valid, nothing failed, and the input is what `short` writes of a list without a wrong
+  -- line, then the run is done, and the sink took exactly the list itself: its lines but the empty ones, each with LF.
   abbrev pub WritesBack : List (List ℕ) → Ending → Type 0
   WritesBack words ending =
       words ≡ words_for Explicit → AreValid d → (list input before : List ℕ)

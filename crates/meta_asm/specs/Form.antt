@@ -16,7 +16,7 @@ form_name Explicit = codes "explicit"
 abbrev pub words_for : Form → List (List ℕ)
 words_for form = form_name form ∷ []
 
--- what an input is written as in the form, as declarations mean
+-- the texts that an input is written as in the form, as declarations mean
 abbrev pub written_in : Form → Texts
 written_in Short d input is_rejection text = IsShortened (AcceptedReply d.set) (IsMannerDeclared d.set) input is_rejection text
 written_in Explicit d input is_rejection text = IsSpelled (AcceptedReply d.set) (IsMannerDeclared d.set) input is_rejection text

@@ -1,6 +1,6 @@
--- The parts of the short form of an application, as the program holds them.
---     HasShortParts m a p    they are those of a, with the types left out that m leaves out
---     TellTypes opened rs numbers      the numbers tell the types of the results whose types aren't written
+-- The parts of the short form of an application, as the program stores them.
+--     HasShortParts m a p    they are those of a, without the types that m leaves out
+--     TellTypes opened rs numbers      the numbers give the types of the results whose types aren't written
 use Rattle.std.specs.Prelude.{◌≡◌, ℕ, Bool, false, List, [], ◌∷◌, map, length, slice_get, get_or, Some}
 use Rattle.std.specs.Option.{option_map}
 use Rattle.meta_types.specs.TypeParts.{number_of}
@@ -8,7 +8,7 @@ use Rattle.meta_verify.specs.Statement.{TypedValue, Application, value_text}
 use Rattle.meta_short.specs.Short.{Manner, short_results, short_result_text, control_written, values_written}
 use Rattle.meta_asm.specs.declared.parts.ShortParts.{ShortParts}
 
--- the list of the results, the name, what stands behind the point, and the list of the values
+-- the list of the results, the name, what stands after the point, and the list of the values
 pub record HasShortParts (m : Manner) (a : Application) (p : ShortParts) : Type 0 where
   pub results : option_map (λ t. t.now) p.results ≡ values_written (map short_result_text (short_results m.opened a.results))
   pub name : p.name.now ≡ a.name
@@ -21,7 +21,7 @@ pub record TellTypes (opened : List Bool) (rs : List TypedValue) (numbers : List
   pub each : (k : ℕ) (r : TypedValue)
       → slice_get rs k ≡ Some r → get_or opened k false ≡ false → slice_get numbers k ≡ Some (number_of r.type)
 
--- the comma that stands behind a word before the next
+-- the comma that stands after a word before the next
 abbrev pub comma_behind : List ℕ → List ℕ
 comma_behind [] = []
 comma_behind (c ∷ cs) = 44 ∷ []

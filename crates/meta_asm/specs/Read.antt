@@ -1,5 +1,5 @@
 -- What is read of the short form of an application, by tables.
---     IsReadBy tables env op entry m a      behind lines that define env, a is right by this opcode, and m is its manner
+--     IsReadBy tables env op entry m a      after lines that define env, a is right by this opcode, and m is its manner
 use Rattle.std.specs.Prelude.{◌≡◌, ℕ, ◌<◌, List, length, Some}
 use Rattle.meta_lists.specs.First.{IsFirst}
 use Rattle.meta_types.specs.TypeParts.{TypeParts}
@@ -13,7 +13,7 @@ use Rattle.meta_short.specs.Short.{Manner}
 use Rattle.meta_short.specs.Parts.{IsPlain}
 use Rattle.meta_short.specs.Manners.{manner_of}
 
--- the tables allow the types of the values and the results for the opcode of the name, whose entry says in which manner it is written
+-- the tables allow the types of the values and the results for the opcode of the name, whose entry gives the manner in which it is written
 pub record IsReadBy (tables : TableContents) (env : Environment) (op : ℕ) (entry : OpcodeNumbers) (m : Manner)
     (a : Application) : Type 0 where
   pub can : CanApply a

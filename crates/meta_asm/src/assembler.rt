@@ -55,14 +55,14 @@ fn assemble<S: Source, K: Sink>(
     }
 }
 
-/// Writes a list of lines over declarations in another form (this project's own). The one word is `short` or `explicit`.
+/// Writes a list of lines over declarations in another form. The one word is `short` or `explicit`.
 ///
-/// For `short` the sink takes each line with types left out that follow, and else `line N: REASON` of the first wrong line, as `verify`
-/// says. For `explicit` it takes, for each text so written, the line that reads so, with all types, and else `line N: bad` alone, of
-/// the first that reads as none. Each line has LF behind it. Empty lines are skipped, and counted in N.
+/// For `short` the sink takes each line without the types that follow from others, or else `line N: REASON` for the first wrong line, as
+/// `verify` says. For `explicit` it takes, for each text in the short form, the line that it is the short form of, with all types; or else
+/// only `line N: bad`, for the first text that reads as no line. Each line has LF after it. Empty lines are skipped, and counted in N.
 ///
-/// The order is: the words; the declarations, which are refused by the first fault that they show; the whole input; all that is
-/// answered, in memory; the writes. The ending says how it went, and `OutOfMemory` may come in any case but `Usage`.
+/// The order is: the words; the declarations, which are refused by their first fault if they have one; the whole input; the whole answer,
+/// in memory; the writes. The answer says how the run ended, and `OutOfMemory` may come in any case but `Usage`.
 pub fn asm<S: Source, K: Sink>(
     alloc: Global,
     words: &[Text],
@@ -70,17 +70,18 @@ pub fn asm<S: Source, K: Sink>(
     source: &mut S,
     sink: &mut K,
 ) -> Ending
-    // Over valid declarations `short` writes the short form of each line, exactly where no line is wrong, and `explicit` the line that
-    // each text reads as, exactly where each reads as one; else the first other one is told.
+    // Over valid declarations `short` writes the short form of each line, exactly if no line is wrong. `explicit` writes the line that each
+    // text reads as, exactly if each reads as one. Otherwise the first line that is wrong, or reads as none, is named.
     ensures shortens { ShortensList S.left S.faults K.taken K.faults declarations.now source.old source.new sink.old
         sink.new words.now result }
     ensures spells { SpellsList S.left S.faults K.taken K.faults declarations.now source.old source.new sink.old sink.new words.now result }
 
-    // So `explicit` writes a list back of what `short` wrote of it: it is done, and the list is the same, but for empty lines and CRs.
+    // So `explicit` writes back the list from which `short` wrote its input: the run is done, and the list is the same, but for empty lines
+    // and CRs.
     ensures writes_back { WritesBack S.left S.faults K.taken K.faults declarations.now source.old source.new sink.old
         sink.new words.now result }
 
-    // What was read and written, by how it ended, and what is done where nothing fails: each field is a fact of the call.
+    // What was read and written, by how the run ended, and what is done where nothing fails. Each field is a fact of the call.
     ensures runs { Runs S.left S.faults K.taken K.faults declarations.now source.old source.new sink.old sink.new
         (λ form. words.now ≡ words_for form) (λ _. true) written_in result }
 {

@@ -4,7 +4,7 @@ ghost use Rattle.meta_asm.specs.declared.form.Form as spec;
 
 use meta_types::Text;
 
-/// In which form a list is written (this project's own).
+/// In which form a list is written.
 #[derive(Clone, Copy)]
 pub enum Form {
     /// With types left out.
@@ -14,7 +14,7 @@ pub enum Form {
 }
 
 impl Form {
-    /// The form that the words ask for, and `None` exactly where they ask for none.
+    /// The form that the words ask for. It is `None` exactly if they ask for no form.
     pub fn parse(words: &[Text]) -> Option<Form>
         ensures some { IfSome result (λ form. words.now ≡ words_for form) }
         ensures none { IfNone result ((form : spec.Form) → words.now ≢ words_for form) }

@@ -15,7 +15,7 @@ use meta_short::{one_line_reads, one_short_form};
 use meta_verify::{one_answer, one_statement, one_verdict};
 
 /// The short forms of a list, as a text, are written back as the list itself, and as nothing else: its lines but the empty ones, without
-/// the CRs that were dropped, each with LF, and no rejection. So it is by well-formed tables, and as valid declarations mean.
+/// the CRs that were dropped, each with LF, and no rejection. This holds by well-formed tables, and as valid declarations mean.
 pub fn lists_are_written_back()
     ensures tables { (tables : TableContents) → IsWellFormedOpcodes tables → (input out : List ℕ)
         → IsShortened (AllowedReply tables) (IsMannerIn tables) input false out → (is_rejection : Bool) (text : List ℕ)
@@ -27,12 +27,12 @@ pub fn lists_are_written_back()
         ↔ ((is_rejection ≡ false) × (text ≡ text_of_lines (filled (lines_of input))))) }
 {}
 
-/// Words ask for one form at most.
+/// Words ask for at most one form.
 pub fn one_form()
     ensures { (words : List (List ℕ)) (a b : Form) → words ≡ words_for a → words ≡ words_for b → a ≡ b }
 {}
 
-/// An input is written in a form in one way at most: by tables, which for the explicit form are well-formed, and as valid declarations
+/// An input is written in a form in at most one way: by tables, which for the explicit form must be well-formed, and as valid declarations
 /// mean.
 pub fn one_output_of_a_form()
     ensures short { (tables : TableContents) (input : List ℕ) (a b : Bool) (s t : List ℕ)

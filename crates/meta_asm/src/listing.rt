@@ -26,7 +26,7 @@ fn rejection(alloc: Global, number: usize, reason: Reason) -> Result<Answer, All
     })
 }
 
-/// Feeds the checker a line, and adds its short form and LF where it is right and has one.
+/// Feeds the checker a line, and adds its short form and LF if it is right and has one.
 fn push_short_form(
     alloc: Global,
     tables: &Tables,
@@ -67,8 +67,8 @@ pub(crate) fn shortened(alloc: Global, tables: &Tables, input: &[u8]) -> Result<
     })
 }
 
-/// Feeds the checker the line that the text reads as, and adds it with LF. It is false where the text reads as no line. An empty text is
-/// skipped.
+/// Feeds the checker the line that the text reads as, and adds it with LF. The answer is false if the text reads as no line. An empty text
+/// is skipped.
 fn push_read_line(
     alloc: Global,
     tables: &Tables,
@@ -95,7 +95,7 @@ fn push_read_line(
     Ok(true)
 }
 
-/// Writes the lines that those of an input read as, or says which is the first that reads as none.
+/// Writes the lines that those of an input read as, or says which is the first that reads as no line.
 pub(crate) fn spelled(alloc: Global, tables: &Tables, input: &[u8]) -> Result<Answer, AllocError>
     requires within { length input.now ≤ longest_input }
     ensures { IfOk result (λ answer. IsSpelled (AllowedReply tables.now.opcodes) (IsMannerIn tables.now.opcodes)

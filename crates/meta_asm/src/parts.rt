@@ -7,8 +7,7 @@ ghost use Rattle.meta_asm.specs.Parts.{HasShortParts};
 
 use meta_words::cut;
 
-/// The parts of the short form of an application: the list before ` = `, the name, what stands behind the point, and the list of the
-/// values.
+/// The parts of the short form of an application: the list before ` = `, the name, what stands after the point, and the list of the values.
 #[derive(Clone, Copy)]
 pub(crate) struct ShortParts<'a> {
     pub(crate) results: Option<&'a [u8]>,
@@ -38,14 +37,14 @@ pub(crate) fn without_space_before(text: &[u8]) -> &[u8]
     }
 }
 
-/// What stands before ` = `, if there is such a part, and what stands behind it.
+/// What stands before ` = `, if there is such a part, and what stands after it.
 #[derive(Clone, Copy)]
 struct Sides<'a> {
     results: Option<&'a [u8]>,
     applied: &'a [u8],
 }
 
-/// The two sides of the short form of an application. Of another text they are some parts of it.
+/// The two sides of the short form of an application. For another text they are some parts of it.
 fn sides_of(text: &[u8]) -> Sides<'_>
     ensures results { (results : List (List ℕ)) (applied : List ℕ)
         → All (λ t. All (λ b. b ≢ 61) t) results → All (λ b. b ≢ 61) applied → text.now ≡ results_part results ++ applied
@@ -67,7 +66,7 @@ fn sides_of(text: &[u8]) -> Sides<'_>
     }
 }
 
-/// The parts of the short form of an application. Of another text they are some parts of it.
+/// The parts of the short form of an application. For another text they are some parts of it.
 pub(crate) fn parts_of(text: &[u8]) -> ShortParts<'_>
     ensures { (m : Manner) (a : Application) → IsPlain a.name → CanApply a → text.now ≡ short_application m a → HasShortParts m a result }
 {

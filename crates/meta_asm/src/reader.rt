@@ -28,7 +28,7 @@ use meta_verify::Checker;
 use std::alloc::{AllocError, Global};
 use std::str;
 
-/// An opcode that a text names: its entry, and whether its control is left out where it stands alone.
+/// An opcode that a text names: its entry, and whether its control is left out if it stands alone.
 #[derive(Clone, Copy)]
 struct Named {
     opcode: u16,
@@ -78,7 +78,7 @@ fn control_of(tables: &Tables, checker: &Checker, named: Named, written: &Writte
     checker.type_of(*value)
 }
 
-/// The line of the application that the parts write, with its types, where they are those of one that is right.
+/// The line of the application that the parts write, with its types, if they are those of an application that is right.
 fn line_with_types(
     alloc: Global,
     tables: &Tables,
@@ -114,7 +114,7 @@ fn line_with_types(
     Ok(Some(line_of(alloc, words)?))
 }
 
-/// The line of the application whose short form the text is, where it is one.
+/// The line of the application whose short form the text is, if there is one.
 fn spelled_out(
     alloc: Global,
     tables: &Tables,
@@ -133,7 +133,6 @@ fn spelled_out(
     }
 }
 
-/// Whether the text is the short form of the line.
 fn is_short_form(
     alloc: Global,
     tables: &Tables,
@@ -150,7 +149,7 @@ fn is_short_form(
     }
 }
 
-/// The line as a text, where it is one.
+/// The line as a text, if it is one.
 fn text_of(alloc: Global, line: &[u8]) -> Result<Option<Text>, AllocError>
     ensures some { IfOk result (λ o. IfSome o (λ t. t ≡ line.now)) }
     ensures none { IfOk result (λ o. IfNone o (¬ All (λ b. b < 128) line.now)) }
@@ -161,8 +160,8 @@ fn text_of(alloc: Global, line: &[u8]) -> Result<Option<Text>, AllocError>
     }
 }
 
-/// The line that the text reads as, behind the lines of the checker, by the tables, and `None` exactly where it reads as none. One line
-/// at most has this short form. It costs the length of the text, and a look-up for each value. The only error is want of memory.
+/// The line that the text reads as, by the tables, after the lines of the checker. It is `None` exactly if the text reads as no line. At
+/// most one line has this short form. The cost is the length of the text, and a look-up for each value.
 pub fn read_line(
     alloc: Global,
     tables: &Tables,

@@ -10,7 +10,7 @@ use super::words::push_type;
 use meta_words::{Pieces, cut};
 use std::alloc::{AllocError, Global};
 
-/// Adds a result with its type: as it is written, or else the type with this number. It is false where no type has it.
+/// Adds a result with its type: as it is written, or else the type with this number. The answer is false if no type has it.
 fn push_result(
     alloc: Global,
     word: &mut Vec<u8>,
@@ -30,7 +30,7 @@ fn push_result(
     push_type(alloc, word, number)
 }
 
-/// Adds a comma, but at the front.
+/// Adds a comma, unless the word is empty.
 fn push_comma(word: &mut Vec<u8>) -> Result<(), AllocError>
     ensures { OnOk result (word.new.items ≡ word.old.items ++ comma_behind word.old.items) }
 {
@@ -41,7 +41,7 @@ fn push_comma(word: &mut Vec<u8>) -> Result<(), AllocError>
     Ok(())
 }
 
-/// The first of the numbers, and those behind it.
+/// The first of the numbers, and those after it.
 fn next_number(numbers: &[u16]) -> Option<(u16, &[u16])>
     ensures some { IfSome result (λ p. numbers.now ≡ p.0 ∷ p.1.now) }
     ensures none { IfNone result (numbers.now ≡ []) }
@@ -50,8 +50,8 @@ fn next_number(numbers: &[u16]) -> Option<(u16, &[u16])>
     Some((*first, others))
 }
 
-/// The word for results, of which there is a number for each: `-` for none, and else each with its type, as it is written or as its number
-/// tells. `None` where there are more results, or no type has a number that has to tell one.
+/// The word for results: `-` if there are none, and else each with its type, as it is written or by its number. There is a number for each
+/// result. `None` if there are more results than numbers, or no type has a number that is needed.
 pub(crate) fn results_word(
     alloc: Global,
     list: Option<&[u8]>,

@@ -11,7 +11,7 @@ ghost use Rattle.meta_short.specs.Short.{values_written};
 use meta_types::ValueType;
 use std::alloc::{AllocError, Global};
 
-/// The words behind `line` of a line.
+/// The words after `line` of a line.
 #[derive(Clone, Copy)]
 pub(crate) struct Words<'a> {
     pub(crate) name: &'a [u8],
@@ -20,7 +20,6 @@ pub(crate) struct Words<'a> {
     pub(crate) values: &'a [u8],
 }
 
-/// The line of the words.
 pub(crate) fn line_of(alloc: Global, words: Words<'_>) -> Result<Vec<u8>, AllocError>
     ensures { IfOk result (λ line. line.items ≡ join_with_byte 32
         (codes "line" ∷ words.entry.name.now ∷ words.entry.control.now ∷ words.entry.results.now ∷ words.entry.values.now ∷ [])) }
@@ -37,7 +36,6 @@ pub(crate) fn line_of(alloc: Global, words: Words<'_>) -> Result<Vec<u8>, AllocE
     Ok(line)
 }
 
-/// The list without its spaces.
 fn without_spaces(alloc: Global, list: &[u8]) -> Result<Vec<u8>, AllocError>
     ensures { IfOk result (λ word. word.items ≡ filter (λ b. not (b == 32)) list.now) }
 {
@@ -50,7 +48,7 @@ fn without_spaces(alloc: Global, list: &[u8]) -> Result<Vec<u8>, AllocError>
     Ok(word)
 }
 
-/// The word for values: `-` for none, and else their list without its spaces.
+/// The word for values: `-` if there are none, and else their list without its spaces.
 pub(crate) fn values_word(alloc: Global, list: Option<&[u8]>) -> Result<Vec<u8>, AllocError>
     ensures { IfOk result (λ word. (texts : List (List ℕ)) → All (λ t. All (λ b. b ≢ 32) t) texts
         → option_map (λ t. t.now) list.entry ≡ values_written texts → word.items ≡ list_text texts) }
@@ -61,7 +59,7 @@ pub(crate) fn values_word(alloc: Global, list: Option<&[u8]>) -> Result<Vec<u8>,
     }
 }
 
-/// Adds the name of the type with this number, and tells whether there is one.
+/// Adds the name of the type with this number. The answer is whether there is one.
 pub(crate) fn push_type(alloc: Global, word: &mut Vec<u8>, number: u16) -> Result<bool, AllocError>
     ensures { IfOk result (λ found. IsTypeNumber number
         → (found ≡ true) × (word.new.items ≡ word.old.items ++ name_of (type_with number))) }
@@ -74,7 +72,7 @@ pub(crate) fn push_type(alloc: Global, word: &mut Vec<u8>, number: u16) -> Resul
     Ok(true)
 }
 
-/// The word for the controlling types: as they are written, or else of the one that is known, and `-` where none is.
+/// The word for the controlling types: as they are written, or else the one that is known, and `-` if none is.
 pub(crate) fn control_word(
     alloc: Global,
     written: Option<&[u8]>,

@@ -11,7 +11,7 @@ use super::words::{Words, line_of};
 use meta_verify::Statement;
 use std::alloc::{AllocError, Global};
 
-/// What a text writes of an application beside the results: the numbers of the controlling types, and the values.
+/// What a text writes of an application apart from the results: the numbers of the controlling types, and the values.
 #[derive(Drop)]
 pub(crate) struct Written {
     pub(crate) control: Option<u16>,
@@ -19,7 +19,7 @@ pub(crate) struct Written {
     pub(crate) values: Vec<u32>,
 }
 
-/// What the parts of a text write, of which `values` is the word for the values, and `None` where they are those of no application.
+/// What the parts of a text write. `values` is the word for the values. `None` if the parts are those of no application.
 pub(crate) fn written_of(
     alloc: Global,
     parts: ShortParts<'_>,

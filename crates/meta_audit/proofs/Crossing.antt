@@ -1,4 +1,4 @@
--- A constraint depends on one control at most. So it is enough to try each control beside one number of the other.
+-- A constraint depends on at most one control. So it is enough to try each control beside one number of the other.
 use Rattle.std.proofs.Common.{◌≡◌, ◌↔◌, ◌⊎◌, ℕ, Bool, true, false, Option, slice_get, None, Some, refl, sym, ◌∙◌, subst, inl, inr}
 use Rattle.std.proofs.lemmas.Option.{same_Some, none-some}
 use Rattle.meta_inst.specs.Which.{Which, First, Second, both}
@@ -93,7 +93,7 @@ module _ (own other : TableContents) (p q : ℕ) (n : ℕ) where
       → (PassesAt tables (both c d) r n ↔ PassesAt tables (both c e) r n)
   change_second tables r ignores c d e = (ignores d e c n, ignores e d c n)
 
-  -- the same passes under c and d, where it does beside one number of each
+  -- the same numbers pass under c and d, if they do for one number of each with the other
   crossed : (c0 d0 c d : Option ℕ) → (PassesAt own (both c d0) p n ↔ PassesAt other (both c d0) q n)
       → (PassesAt own (both c0 d) p n ↔ PassesAt other (both c0 d) q n) → (PassesAt own (both c0 d0) p n ↔ PassesAt other (both c0 d0) q n)
       → Ignores First own p ⊎ Ignores Second own p → Ignores First other q ⊎ Ignores Second other q
@@ -113,7 +113,7 @@ module _ (own other : TableContents) (p q : ℕ) (n : ℕ) where
       (then ((λ x. at_both.1 x), (λ x. at_both.0 x))
       (then (change_first own p own_first c0 c d0) (then over_c (change_second other q other_second c d0 d))))))
 
--- Where the same passes for each number of the control beside d0, and for each of the second control beside c0, it does for all.
+-- If the same numbers pass for each number of the first control with d0, and for each of the second control with c0, they pass for all.
 pub cross : (own other : TableContents) (first second p q : ℕ) (c0 d0 : Option ℕ) → ControlNumberFits own first c0
     → ControlNumberFits own second d0
     → ((c : Option ℕ) → ControlNumberFits own first c → SameNumbers own other (paired First c d0) p q)
@@ -123,7 +123,7 @@ cross own other first second p q c0 d0 c0_fits d0_fits over_c over_d c d c_fits 
     crossed own other p q n c0 d0 c d (over_c c c_fits n) (over_d d d_fits n) (over_c c0 c0_fits n)
     (ignores_one own p) (ignores_one other q)
 
--- where both places ignore a control, one number of it is enough
+-- if both places ignore a control, one number of it is enough
 pub one_number : (a : Which) (own other : TableContents) (p q : ℕ) (c0 e : Option ℕ) → Ignores a own p
     → Ignores a other q → SameNumbers own other (paired a c0 e) p q → (c : Option ℕ) → SameNumbers own other (paired a c e) p q
 one_number a own other p q c0 e own_ignores ignores same c n =

@@ -6,7 +6,7 @@ mod OneForm
 mod Crossing
 -- one operand: what it can have alone is what passes its constraint
 mod Alone
--- the entry of tables that declarations have means what another means exactly where that matches
+-- another entry means the same as the entry of the tables of declarations exactly if it matches
 mod SameMeaning
 -- tables that match accept what the declarations accept
 mod Meaning

@@ -56,7 +56,7 @@ module _ (sets : Sets) (i : Instruction) (control : Option Variable) (tables : T
   both_fit e g e_fits g_fits First = e_fits
   both_fit e g e_fits g_fits Second = g_fits
 
-  -- the entry tells of the operands, one by one
+  -- the entry gives the types of the operands, one by one
   tells : (c d : Option ℕ) → TellsOperands sets i control tables entry c d
   tells c d = record {
     results = is.results;

@@ -1,4 +1,4 @@
--- What is of one form means the same.
+-- Constraints of one form mean the same.
 use Rattle.std.proofs.Common.{◌≡◌, ◌≢◌, ◌↔◌, ◌⊎◌, ◌<◌, ◌≤◌, ℕ, Option, None, Some, refl, sym, ◌∙◌, subst, inl, inr}
 use Rattle.std.proofs.Common.{arith}
 use Rattle.std.proofs.lemmas.Option.{same_Some, slice_get_within}
@@ -18,7 +18,7 @@ contained own other j k n m c = record {
   contains = subst (λ x. ContainsNumber x n) (same_Some c.masks m.masks (sym c.is_set ∙ m.at)) c.contains;
 }
 
--- and the other way round
+-- two type sets with the same masks have them in either order
 turned : (own other : TableContents) (j k : ℕ) → SameMasks own other j k → SameMasks other own k j
 turned own other j k m = record { masks = m.masks; at = m.other_at; other_at = m.at }
 
@@ -90,7 +90,7 @@ pub same_masks_fit : (own other : TableContents) (j k : ℕ) → IsWellFormedOpc
 same_masks_fit own other j k own_well well m c =
     (fits_to own other j k own_well well m c, fits_to other own k j well own_well (turned own other j k m) c)
 
--- The same fits where neither is there.
+-- The same fits two offsets if neither has a control.
 pub none_there : (own other : TableContents) (j k : ℕ) → ControlNumberFits own j None → ControlNumberFits other k None
     → SameControl own other j k
 none_there own other j k none other_none c =

@@ -1,4 +1,4 @@
--- There is one verdict on tables beside declarations, and one line for a text.
+-- There is at most one verdict on tables that are compared with declarations, and at most one line for a text.
 use Rattle.std.proofs.Common.{◌≡◌, ◌+◌, ℕ, List, [], ◌∷◌, ◌++◌, refl, sym, ap, ◌∙◌, subst, inl, inr}
 use Rattle.meta_lists.proofs.First.{one_first}
 use Rattle.meta_declared.specs.AllDeclared.{Declared}
@@ -10,7 +10,7 @@ use Rattle.meta_audit.specs.declared.verdict.Verdict.{Verdict}
 use Rattle.meta_audit.specs.declared.verdict.Verdict.TheVariants.{Yes, Opcodes, Opcode, Group}
 
 module _ (d : Declared) (t : WholeTables) where
-  -- where all opcodes match none differs
+  -- if all opcodes match, none differs
   none_differs : AllMatch d.set t.opcodes → (k : ℕ) → Differs d.set t.opcodes k → ⊥
   none_differs all k x = x.other (all k x.builder x.at)
 
@@ -33,7 +33,7 @@ module _ (d : Declared) (t : WholeTables) where
   one_verdict (Group g) (Opcode n) a b = absurd (none_differs a.opcodes b.place b.first.holds)
   one_verdict (Group g) (Group h) a b = ap Group (one_first (DiffersAt d t) g h a.first b.first)
 
--- a text has one line
+-- a text has at most one line
 pub one_line : ((text : List ℕ) (t u : WholeTables) → Reads text t → Reads text u → t ≡ u) → (d : Declared) (text one other : List ℕ)
     → IsAuditLine d text one → IsAuditLine d text other → one ≡ other
 one_line one_reading d text one other (inl a) (inl b) =

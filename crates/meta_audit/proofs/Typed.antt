@@ -23,7 +23,7 @@ is_low t = ltb (number_of t) 384
 all_low : at_all is_low ≡ true
 all_low = refl
 
--- and from 112 on
+-- the number of a type is at least 112 and below 384
 pub in_range : (n : ℕ) → IsTypeNumber n → (112 ≤ n) × (n < 384)
 in_range n h =
     let low : number_of (type_with n) < 384 = ltb-true (number_of (type_with n)) 384 (at_all_types is_low all_low (type_with n) h.is_type)
@@ -34,24 +34,24 @@ in_range n h =
 -- ---- what fits a control
 
 module _ (tables : TableContents) (j : ℕ) where
-  -- where there is no control, nothing fits but none
+  -- if there is no control, only `None` fits
   pub absent_fits : j ≡ no_type_set → (c : Option ℕ) → (ControlNumberFits tables j c ↔ c ≡ None)
   absent_fits e c = (
     λ fits. MatchBool-at_true _ _ (eq-eqb j no_type_set e) fits,
     λ is. subst (λ b. MatchBool b (c ≡ None) ((n : ℕ) × (c ≡ Some n) × SetContains tables j n)) (sym (eq-eqb j no_type_set e)) is,
   )
 
-  -- where there is one, what its set contains fits
+  -- if there is a control, each number that its set contains fits
   pub some_fits : j ≢ no_type_set → (n : ℕ) → SetContains tables j n → ControlNumberFits tables j (Some n)
   some_fits there n c = subst (λ b. MatchBool b (Some n ≡ None) ((m : ℕ) × (Some n ≡ Some m) × SetContains tables j m))
       (sym (ne_eqb j no_type_set there)) (n, refl, c)
 
-  -- and what fits is contained
+  -- if there is a control, its set contains what fits
   pub fitting : j ≢ no_type_set → (c : Option ℕ) → ControlNumberFits tables j c → (n : ℕ) × (c ≡ Some n) × SetContains tables j n
   fitting there c fits = MatchBool-at_false {b = j == no_type_set} (c ≡ None) ((n : ℕ) × (c ≡ Some n)
       × SetContains tables j n) (ne_eqb j no_type_set there) fits
 
-  -- none fits only where there is no control
+  -- `None` fits only if there is no control
   pub none_fits : ControlNumberFits tables j None → j ≡ no_type_set
   none_fits fits = by_case (cases_eq j no_type_set)
     where
@@ -59,7 +59,7 @@ module _ (tables : TableContents) (j : ℕ) where
       by_case (inl e) = e
       by_case (inr there) = let h = fitting there None fits in absurd (none-some h.0 h.1)
 
-  -- and a number only where there is one, whose set contains it
+  -- a number fits only if there is a control whose set contains it
   pub number_fits : (n : ℕ) → ControlNumberFits tables j (Some n) → SetContains tables j n
   number_fits n fits = by_case (cases_eq j no_type_set)
     where
@@ -71,7 +71,7 @@ module _ (tables : TableContents) (j : ℕ) where
   pub contained_typed : (n : ℕ) → SetContains tables j n → IsTypeNumber n
   contained_typed n h = subst IsTypeNumber h.contains.numbered (number_is_one h.contains.type_of h.contains.contained.is_type)
 
-  -- so is one that fits
+  -- a number that fits is that of a type
   pub fitting_typed : (c : Option ℕ) → ControlNumberFits tables j c → IfSome c IsTypeNumber
   fitting_typed None fits = tt
   fitting_typed (Some n) fits = contained_typed n (number_fits n fits)
@@ -98,7 +98,7 @@ module _ (tables : TableContents) (well : IsWellFormedOpcodes tables) (c d : Opt
       of_constraint (SameNumber a) good passes = control_typed a n passes
       of_constraint (ByNumber a f) good (u, is, steps) = subst IsTypeNumber steps.number_to (number_is_one steps.to steps.steps.to)
 
--- what is the same of all numbers from 112 to 383 is the same of all
+-- if the numbers from 112 to 383 pass alike at two places, all numbers do
 pub same_numbers : (own other : TableContents) → IsWellFormedOpcodes own → IsWellFormedOpcodes other → (c d : Option ℕ)
     → IfSome c IsTypeNumber → IfSome d IsTypeNumber → (p q : ℕ)
     → ((n : ℕ) → 112 ≤ n → n < 384 → (PassesAt own (both c d) p n ↔ PassesAt other (both c d) q n)) → SameNumbers own other (both c d) p q

@@ -1,4 +1,4 @@
--- What is said of tables beside those of declarations is what is said of them beside the declarations.
+-- The verdict on tables by those of declarations is the verdict on them for the declarations.
 use Rattle.std.proofs.Common.{◌≡◌, ◌≢◌, ◌↔◌, ◌+◌, ◌<◌, ℕ, zero, suc, List, length, Option, None, Some, option_map, slice_get, refl, sym, ap}
 use Rattle.std.proofs.Common.{◌∙◌, subst, arith}
 use Rattle.std.proofs.lemmas.Option.{same_Some, none-some, slice_get_within}
@@ -57,7 +57,7 @@ own_groups groups tables made g = by_case (slice_get groups g) refl (slice_get t
     by_case (Some d) is (Some t) at = ap Some (made.each g d t is at).names
 
 module _ (d : InstructionSet) (own other : TableContents) (sets : HoldTypeSets d.vars) (made : AreTablesOf d own) where
-  -- the root of each operand has a set of types
+  -- the root of each operand has a type set
   typed : (b : Builder) (k : ℕ) (w : Variable) → IsOperand (instruction_in_set d b) k w → IsTypeSet (root_sets d w.root)
   typed b k w at = sets w.root
 
@@ -115,7 +115,7 @@ module _ (d : Declared) (own t : WholeTables) (sets : HoldTypeSets d.set.vars) (
   groups_are : (g : ℕ) → entries_at own.groups g ≡ declared_entries d.groups g
   groups_are = own_groups d.groups own.groups made.groups
 
-  -- What is said beside the tables of the declarations is the verdict.
+  -- The verdict by the tables of the declarations is the verdict for the declarations.
   pub verdict_of : (v : Verdict) → IsComparison own t v → IsAuditVerdict d t v
   verdict_of Yes (same, groups) = record {
     count = same.count ∙ made.opcodes.count;
@@ -213,12 +213,12 @@ module _ (d : InstructionSet) (other : TableContents) (well : IsWellFormedOpcode
   pub finds_declared : (name : List ℕ) (answer : Option ℕ) → (FindsOpcode other name answer ↔ FindsName d name answer)
   finds_declared name answer = (finds_to name answer, finds_from name answer)
 
--- what is none behind a function is none
+-- if a mapped option is `None`, so is the option
 none_behind : {X Y : Type 0} (f : X → Y) (o : Option X) → option_map f o ≡ None → o ≡ None
 none_behind f None e = refl
 none_behind f (Some x) e = absurd (none-some (f x) (sym e))
 
--- the one entry of a name is the first that has it, and none is where none has it
+-- the one entry of a name is the first that has it, and there is no such entry if no entry has it
 finds_one : (names : List (List ℕ)) (name : List ℕ) (answer : Option ℕ) → ((e : ℕ) → ((answer ≡ Some e) ↔ (slice_get names e ≡ Some name)))
     → FindsEntry names name answer
 finds_one names name None exact = λ e at. absurd (none-some e ((exact e).1 at))

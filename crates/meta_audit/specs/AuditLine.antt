@@ -1,5 +1,5 @@
 -- What the auditor writes for a text.
---     IsAuditLine d text out      the line for a text beside declarations
+--     IsAuditLine d text out      the line for a text that is compared with declarations
 use Rattle.std.specs.Prelude.{◌≡◌, ◌⊎◌, ℕ, List, [], ◌∷◌, ◌++◌, codes}
 use Rattle.std.specs.Fmt.{decimal}
 use Rattle.meta_declared.specs.AllDeclared.{Declared}
@@ -16,7 +16,7 @@ verdict_text Opcodes = codes "opcodes"
 verdict_text (Opcode n) = codes "opcode " ++ decimal n
 verdict_text (Group g) = codes "group " ++ decimal g
 
--- the text reads as tables, of which there is one value at most, and the line is the verdict on them
+-- the text reads as tables, as at most one value of them, and the line is the verdict on them
 pub record IsVerdictLine (d : Declared) (text out : List ℕ) : Type 0 where
   pub tables : WholeTables
   pub reads : Reads text tables
@@ -29,6 +29,6 @@ pub record IsRefusedLine (text out : List ℕ) : Type 0 where
   pub reads_none : (t : WholeTables) → Reads text t → ⊥
   pub is : out ≡ refused_line
 
--- the line for a text: the verdict on the tables that it reads as, beside the declarations, and `refused` where it reads as none
+-- the line for a text: the verdict on the tables that it reads as, compared with the declarations, and `refused` if it reads as no tables
 abbrev pub IsAuditLine : Declared → List ℕ → List ℕ → Type 0
 IsAuditLine d text out = IsVerdictLine d text out ⊎ IsRefusedLine text out

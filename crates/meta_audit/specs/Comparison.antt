@@ -71,7 +71,7 @@ pub record HaveOneForm (own other : TableContents) (p q : ℕ) : Type 0 where
 
 -- ---- what a constraint depends on
 
--- whether it is the control that is meant
+-- whether this control is the one that is meant
 abbrev pub is_which : Which → Which → Bool
 is_which First First = true
 is_which First Second = false

@@ -1,6 +1,6 @@
--- What the auditor says of tables beside declarations.
---     IsAuditVerdict d t verdict          the verdict on the tables t beside the declarations d
---     IsComparison own t verdict     the same beside the tables of these declarations
+-- What the auditor says of tables that are compared with declarations.
+--     IsAuditVerdict d t verdict          the verdict on the tables t for the declarations d
+--     IsComparison own t verdict     the same, if own are the tables of these declarations
 use Rattle.std.specs.Prelude.{◌≡◌, ◌≢◌, ◌<◌, ◌+◌, ◌⊎◌, ℕ, List, [], ◌∷◌, ◌++◌, Option, None, Some, length, slice_get}
 use Rattle.std.specs.Option.{option_map}
 use Rattle.meta_lists.specs.First.{IsFirst}
@@ -41,7 +41,7 @@ pub record Differs (d : InstructionSet) (tables : TableContents) (k : ℕ) : Typ
   pub at : IsAt d k builder
   pub other : Matches d tables k builder → ⊥
 
--- the groups at this place have not the same names of entries, or one of them isn't there
+-- the groups at this place don't have the same names of entries, or one of them is missing
 abbrev pub DiffersAt : Declared → WholeTables → ℕ → Type 0
 DiffersAt d t g = entries_at t.groups g ≢ declared_entries d.groups g
 
@@ -74,12 +74,12 @@ IsAuditVerdict d t (Group g) = IsOtherGroup d t g
 
 -- ---- what is found by a name in tables
 
--- what a look-up of an opcode by its name answers: the first that has it, and none where none has it
+-- the answer of a look-up of an opcode by its name: the first that has it, and none if no opcode has it
 abbrev pub FindsOpcode : TableContents → List ℕ → Option ℕ → Type 0
 FindsOpcode tables name None = (op : ℕ) → IsOpcodeNamed tables.names name op → ⊥
 FindsOpcode tables name (Some op) = IsFirst (IsOpcodeNamed tables.names name) op
 
--- and what one of a setting in a group answers; none where there is no such group
+-- the answer of a look-up of a setting in a group; none if there is no such group
 pub record FindsSettingIn (t : WholeTables) (group : ℕ) (name : List ℕ) (answer : Option ℕ) : Type 0 where
   pub entry : OfGroup t group (λ g. FindsEntry (names_in g.descriptors) name answer)
   pub no_group : HasNoGroup t group → answer ≡ None
@@ -96,7 +96,7 @@ pub record AreSameBelow (own other : TableContents) (k : ℕ) : Type 0 where
   pub count : length other.entries ≡ length own.entries
   pub same : (j : ℕ) → j < k → SameOpcode own other j
 
--- the groups of this place have not the same names of entries
+-- the groups of this place don't have the same names of entries
 abbrev pub GroupsDiffer : WholeTables → WholeTables → ℕ → Type 0
 GroupsDiffer own other g = entries_at other.groups g ≢ entries_at own.groups g
 

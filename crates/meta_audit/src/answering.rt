@@ -9,7 +9,6 @@ use meta_run::{Answer, Answerer};
 use meta_table_reader::{TextError, read_tables, refused};
 use std::alloc::{AllocError, Global};
 
-/// Adds the verdict.
 fn push_verdict(out: &mut String, verdict: Verdict) -> Result<(), AllocError>
     ensures { OnOk result (string_bytes out.new ≡ string_bytes out.old ++ verdict_text verdict) }
 {
@@ -21,7 +20,6 @@ fn push_verdict(out: &mut String, verdict: Verdict) -> Result<(), AllocError>
     }
 }
 
-/// The line of a verdict.
 fn line_of(alloc: Global, verdict: Verdict) -> Result<String, AllocError>
     ensures { IfOk result (λ out. string_bytes out ≡ verdict_text verdict ++ 10 ∷ []) }
 {
@@ -31,7 +29,7 @@ fn line_of(alloc: Global, verdict: Verdict) -> Result<String, AllocError>
     Ok(out)
 }
 
-/// The line for a text beside declarations, of which these are the own tables.
+/// The line for a text that is compared with declarations. `own` are the tables of these.
 fn audit_line(
     alloc: Global,
     declarations: &Declarations,
@@ -48,7 +46,7 @@ fn audit_line(
     }
 }
 
-/// Answers the text of tables by its line, as `audit_run` does (this project's own).
+/// The answerer of `audit_run`: it answers the text of tables by its line.
 #[derive(Clone, Copy)]
 pub struct Auditor;
 
@@ -66,7 +64,6 @@ impl Answerer for Auditor {
         true
     }
 
-    /// The line for the input.
     fn answer(&self, alloc: Global, built: &Built<'_>, input: &[u8]) -> Result<Answer, AllocError> {
         let own = tables_of(alloc, built)?;
         Ok(Answer {

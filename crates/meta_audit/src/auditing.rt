@@ -19,7 +19,7 @@ use meta_gen::{Declarations, Tables, generate};
 use meta_types::DefinitionError;
 use std::alloc::Global;
 
-/// What is said of other tables beside these.
+/// The verdict on other tables, by these.
 fn compared(own: &Tables, other: &Tables) -> Verdict
     ensures comparison { IsComparison own.now other.now result }
     ensures own_well_formed { IsWellFormed own.now }
@@ -40,7 +40,7 @@ fn compared(own: &Tables, other: &Tables) -> Verdict
     }
 }
 
-/// The verdict on tables beside declarations and the tables that these have.
+/// The verdict on tables that are compared with declarations. `own` are the tables of these.
 pub(crate) fn verdict_beside(declarations: &Declarations, own: &Tables, tables: &Tables) -> Verdict
     requires { AreWholeTablesOf declarations.now own.now }
     ensures { IsAuditVerdict declarations.now tables.now result }
@@ -50,12 +50,12 @@ pub(crate) fn verdict_beside(declarations: &Declarations, own: &Tables, tables: 
     compared(own, tables)
 }
 
-/// Holds tables, whoever made them, against declarations (this project's own).
+/// Compares tables, whoever made them, with declarations.
 ///
-/// The declarations are refused exactly as `generate` refuses them. Else the verdict is `Opcodes` where there are more or fewer opcodes
+/// The declarations are refused exactly as `generate` refuses them. Otherwise the verdict is `Opcodes` if there are more or fewer opcodes
 /// than instructions; or the number of the first opcode that doesn't mean its instruction; or that of the first group of settings whose
-/// entries have other names, or that only one side has; and else `Yes`. It rests on what the tables mean, by the decoding, and not on
-/// how they say it. The names of formats, bits 3 and 4 of the flags, and all of settings but the names of entries aren't looked at.
+/// entries have other names, or that only one side has; and else `Yes`. It depends on what the tables mean, by the decoding, and not on how
+/// they express it. The names of formats, bits 3 and 4 of the flags, and all of settings but the names of entries are left out.
 pub fn audit(
     alloc: Global,
     declarations: &Declarations,
@@ -64,12 +64,12 @@ pub fn audit(
     ensures refused { IfErr result (λ e. e ≢ OutOfMemory → ShowsFirst declarations.now e) }
     ensures valid { OnOk result (AreValid declarations.now) }
 
-    // The verdict, which is one, and `Yes` for the tables that the declarations have.
+    // There is one verdict, and it is `Yes` for the tables of the declarations.
     ensures verdict { IfOk result (λ v. IsAuditVerdict declarations.now tables.now v) }
     ensures one { IfOk result (λ v. (w : Verdict) → IsAuditVerdict declarations.now tables.now w → v ≡ w) }
     ensures own_tables { AreWholeTablesOf declarations.now tables.now → IfOk result (λ v. v ≡ Verdict.Yes) }
 
-    // After a yes the tables allow exactly what the declarations accept, and a name finds in them what it finds in the declarations.
+    // After `Yes` the tables allow exactly what the declarations accept, and a name finds in them what it finds in the declarations.
     ensures acceptance { IfOk result (λ v. v ≡ Verdict.Yes → (op : ℕ) (c e : Option ℕ) (rs vs : List ℕ)
         → (Allows tables.now.opcodes op c e rs vs ↔ AcceptsOpcode declarations.now.set op c e rs vs)) }
     ensures names { IfOk result (λ v. v ≡ Verdict.Yes → (name : List ℕ) (answer : Option ℕ)

@@ -6,14 +6,14 @@ ghost use Rattle.meta_audit.specs.Comparison.{SameControl};
 use super::forms::same_masks;
 use meta_opcode_tables::OpcodeTables;
 
-/// The number from which the numbers of types count.
+/// The base from which the numbers of types count. All of them are greater.
 pub(crate) const LEAST: u16 = 112;
 
 /// A number above those of all types, of which the greatest is 380.
 pub(crate) const END: u16 = 384;
 
-/// A number that the control of this offset can have, or none where there is no such control. It is `None` where there is such a
-/// control, and its type set contains nothing.
+/// A number that the control of this offset can have, or `Some(None)` if there is no such control. It is `None` if there is such a control,
+/// and its type set contains nothing.
 pub(crate) fn some_control(tables: &OpcodeTables, offset: u16) -> Option<Option<u16>>
     ensures some { IfSome result (λ c. ControlNumberFits tables.now offset c) }
     ensures none { IfNone result ((c : Option ℕ) → ¬ ControlNumberFits tables.now offset c) }
@@ -29,8 +29,8 @@ pub(crate) fn some_control(tables: &OpcodeTables, offset: u16) -> Option<Option<
     None
 }
 
-/// Whether the same numbers fit an offset of the one and an offset of the other. Where both have type sets with the same masks no
-/// number is tested.
+/// Whether the same numbers fit an offset of the one and an offset of the other. If both have type sets with the same masks, no number is
+/// tested.
 pub(crate) fn same_control(
     own: &OpcodeTables,
     other: &OpcodeTables,

@@ -30,7 +30,7 @@ fn named_set(constraint: Constraint) -> Option<u16>
     }
 }
 
-/// Whether the constraints are the same, or differ in the places of type sets with the same masks alone.
+/// Whether the constraints are equal, or differ only in the places of type sets with the same masks.
 fn are_one_form(
     own: &OpcodeTables,
     other: &OpcodeTables,
@@ -47,7 +47,7 @@ fn are_one_form(
     }
 }
 
-/// Whether such constraints stand at these places, one of each tables.
+/// Whether there are such constraints at these places, one of each tables.
 pub(crate) fn have_one_form(
     own: &OpcodeTables,
     other: &OpcodeTables,

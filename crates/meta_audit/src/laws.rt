@@ -12,24 +12,24 @@ ghost use Rattle.meta_audit.specs.Verdict.{IsComparison, IsAuditVerdict, FindsOp
 
 use meta_table_reader::a_text_reads_as_one;
 
-/// What is said of tables beside those of declarations is the verdict on them beside the declarations.
+/// The verdict on tables, by those of declarations, is the verdict on them for the declarations.
 pub(crate) fn comparisons_are_verdicts()
     ensures { (d : Declared) (own t : WholeTables) (v : Verdict) → HoldTypeSets d.set.vars → AreWholeTablesOf d own → IsWellFormed own
         → IsWellFormed t → IsComparison own t v → IsAuditVerdict d t v }
 {}
 
-/// There is one verdict at most on tables beside declarations.
+/// There is at most one verdict on tables that are compared with declarations.
 pub fn one_verdict()
     ensures { (d : Declared) (t : WholeTables) (v w : Verdict) → IsAuditVerdict d t v → IsAuditVerdict d t w → v ≡ w }
 {}
 
-/// The verdict on the tables that declarations have is `Yes`. The variables have sets of types, as those of `Declarations` always do.
+/// The verdict on the tables of declarations is `Yes`. The type variables must have type sets, as those of `Declarations` always do.
 pub fn tables_of_declarations_are_meant()
     ensures { (d : Declared) (t : WholeTables) → HoldTypeSets d.set.vars → AreWholeTablesOf d t → IsAuditVerdict d t Verdict.Yes }
 {}
 
-/// Where the verdict is `Yes`, the tables mean the declarations, whoever made them: the decoding allows exactly those numbers, of all
-/// numbers, that the declarations accept, and what is found by a name in the tables is what has the name in the declarations.
+/// If the verdict is `Yes`, the tables mean the declarations, whoever made them. The decoding allows exactly the numbers, of all numbers,
+/// that the declarations accept. A name finds in the tables what has the name in the declarations.
 pub fn meant_tables_mean_the_declarations()
     ensures acceptance { (d : Declared) (t : WholeTables) → AreValid d → IsWellFormed t → IsAuditVerdict d t Verdict.Yes
         → (op : ℕ) (c e : Option ℕ) (rs vs : List ℕ) → (Allows t.opcodes op c e rs vs ↔ AcceptsOpcode d.set op c e rs vs) }
@@ -39,7 +39,7 @@ pub fn meant_tables_mean_the_declarations()
         → (group : ℕ) (name : List ℕ) (answer : Option ℕ) → (FindsSettingIn t group name answer ↔ FindsSetting d group name answer) }
 {}
 
-/// A text has one line beside declarations.
+/// A text that is compared with declarations has at most one line.
 pub fn one_audit_line()
     ensures { (d : Declared) (text one other : List ℕ) → IsAuditLine d text one → IsAuditLine d text other → one ≡ other }
 {

@@ -1,9 +1,9 @@
 //! The auditor of tables that others made: whether they mean what is declared.
 //!
-//! `audit` holds tables against declarations. Where its verdict is `Yes`, the tables, read by the decoding, allow exactly what the
+//! `audit` compares tables with declarations. If its verdict is `Yes`, the tables, read by the decoding, allow exactly what the
 //! declarations accept, and a name finds in them what it finds in the declarations. The tables needn't be those that `generate` makes:
-//! further type sets, another order of constraints or another form of a constraint mean the same. `audit_run` does the same for the
-//! text of tables.
+//! further type sets, another order of constraints or another form of a constraint mean the same. `audit_run` does the same for the text of
+//! tables.
 #![tactic(auto)]
 
 mod answering;

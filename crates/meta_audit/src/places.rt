@@ -38,7 +38,7 @@ impl<'t> Places<'t> {
         true
     }
 
-    /// The same under this number of the control that is meant, and that number of the other beside it.
+    /// The same under this number of the control `which`, and the number `beside` of the other control.
     fn same_beside(self, which: Which, number: Option<u16>, beside: Option<u16>) -> bool
         requires own { IsWellFormedOpcodes self.own.now }
         requires other { IsWellFormedOpcodes self.other.now }
@@ -53,7 +53,7 @@ impl<'t> Places<'t> {
         }
     }
 
-    /// The same under each number of the control that is meant, whose offset in the own tables this is.
+    /// The same under each number of the control `which`. `offset` is its offset in the own tables.
     fn same_under_each(self, which: Which, offset: u16, beside: Option<u16>) -> bool
         requires own { IsWellFormedOpcodes self.own.now }
         requires other { IsWellFormedOpcodes self.other.now }
@@ -72,7 +72,7 @@ impl<'t> Places<'t> {
         true
     }
 
-    /// The same, where `number` is one of those. It is enough where neither constraint depends on them.
+    /// The same, where `number` is one of these numbers. It is enough if neither constraint depends on them.
     fn same_under(self, which: Which, offset: u16, number: Option<u16>, beside: Option<u16>) -> bool
         requires own { IsWellFormedOpcodes self.own.now }
         requires other { IsWellFormedOpcodes self.other.now }
@@ -87,9 +87,9 @@ impl<'t> Places<'t> {
         self.same_beside(which, number, beside)
     }
 
-    /// Whether the same numbers pass at both places under all numbers of the two controls, whose offsets in the own tables these are.
-    /// A constraint depends on one control at most, so each control is tried beside one number of the other. Where the constraints have
-    /// one form no number is tested.
+    /// Whether the same numbers pass at both places under all numbers of the two controls, which have these offsets in the own tables. A
+    /// constraint depends on at most one control, so each control is tried beside one number of the other. If the constraints have one
+    /// form, no number is tested.
     pub(crate) fn same(self, first: u16, second: u16) -> bool
         requires own { IsWellFormedOpcodes self.own.now }
         requires other { IsWellFormedOpcodes self.other.now }

@@ -26,12 +26,11 @@ fn run_words<S: Source, K: Sink>(
     run_answerer(alloc, &Auditor, declarations, source, sink)
 }
 
-/// Reads the text of tables from the source, holds the tables against declarations, and writes one line to the sink (this project's
-/// own): `refused` where the text reads as no tables, and else the verdict, as `yes`, `opcodes`, `opcode I` or `group G`. There are no
-/// words.
+/// Reads the text of tables from the source, compares the tables with declarations, and writes one line to the sink. It is `refused` if the
+/// text reads as no tables, and else the verdict: `yes`, `opcodes`, `opcode I` or `group G`. There must be no words.
 ///
-/// The order is: the words; the declarations, which are refused by the first fault that they show; the whole text; the line, in memory;
-/// the writes. The status says how it ended, and `OutOfMemory` may come in any case but `Usage`.
+/// The order is: the words; the declarations, which are refused by their first fault if they have one; the whole text; the line, in memory;
+/// the writes. The answer says how the run ended, and `OutOfMemory` may come in any case but `Usage`.
 pub fn audit_run<S: Source, K: Sink>(
     alloc: Global,
     words: &[Text],
@@ -39,12 +38,12 @@ pub fn audit_run<S: Source, K: Sink>(
     source: &mut S,
     sink: &mut K,
 ) -> Ending
-    // The text of tables gets its line over valid declarations.
+    // Over valid declarations the text of tables gets its line.
     ensures headline { words.now ≡ []
         → WritesOutput S.left S.faults K.taken K.faults declarations.now source.old source.new sink.old sink.new true IsAuditLine result }
 
-    // What was read and written, by how it ended, and what is done where nothing fails: each field is a fact of the call. It rejects
-    // nothing.
+    // What was read and written, by how the run ended, and what is done where nothing fails. Each field is a fact of the call. No input is
+    // rejected.
     ensures runs { RunsWordless S.left S.faults K.taken K.faults declarations.now source.old source.new sink.old sink.new words.now
         (never_rejecting IsAuditLine) result }
     ensures never_rejected { result ≢ Ending.Rejected }

@@ -22,7 +22,7 @@ among (y ∷ ys) (suc i) x tv inside at has = by (variable_of y) (among ys i x t
     by None (k, e) = (k, e)
     by (Some v) (k, e) = (suc k, e)
 
--- so it is of the registry, where all are
+-- the variable of an operand is of the registry, if those of all are
 pub operand_of_registry : (vars : List TypeVarContent) (xs : List Operand) (i : ℕ) (x : Operand) (tv : ℕ) → AreOf vars (variables_of xs)
     → i < length xs → x ≡ get_or xs i x → variable_of x ≡ Some tv → tv < length vars
 operand_of_registry vars xs i x tv all inside at has = let (k, e) = among xs i x tv inside at has in all k tv e

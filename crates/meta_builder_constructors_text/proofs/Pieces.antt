@@ -9,7 +9,7 @@ use Rattle.meta_inst.specs.Content.{more_names_text}
 use Rattle.std.proofs.lemmas.List.FromFn.{length-enumerate_from, get_or-enumerate_from}
 use Rattle.meta_rust_lines.proofs.Pieces.{moved, ended}
 
--- ---- of numbers
+-- ---- numbers
 
 numbers_left : (f : ℕ → List ℕ) (i n : ℕ) → i < n → flat_map f (range_with_len i (n - i))
     ≡ f i ++ flat_map f (range_with_len (i + 1) (n - (i + 1)))
@@ -26,12 +26,12 @@ no_number f i n out whole past so_far =
     let none : n - i ≡ zero = omega arith in
     ended out _ whole (ap (λ k. flat_map f (range_with_len i k)) none) so_far
 
--- names by numbers are the first, and the others behind a separator each
+-- names by numbers are the first, and then the others, each after a separator
 pub names_from_first : (name : ℕ → List ℕ) (separator : List ℕ) (n : ℕ) → suc (n - 1) ≡ n
     → name 0 ++ flat_map (λ k. separator ++ name k) (range_with_len 1 (n - 1)) ≡ join_by name separator (range_with_len 0 n)
 names_from_first name separator n more = ap (λ k. join_by name separator (range_with_len 0 k)) more
 
--- ---- of elements by their places
+-- ---- elements by their places
 
 placed_left : {X : Type 0} (f : ℕ × X → List ℕ) (xs : List X) (i : ℕ) (x : X) → i < length xs → x ≡ get_or xs i x
     → flat_map f (drop i (enumerate_from 0 xs)) ≡ f (i, x) ++ flat_map f (drop (i + 1) (enumerate_from 0 xs))
@@ -54,7 +54,7 @@ no_placed f xs i out whole past so_far =
     let long : length (enumerate_from 0 xs) ≤ i = omega (arith, past, length-enumerate_from 0 xs) in
     ended out _ whole (ap (flat_map f) (drop_all i (enumerate_from 0 xs) long)) so_far
 
--- ---- of names
+-- ---- names
 
 pub next_name : (operands : List Operand) (i : ℕ) (o : Operand) (out new whole : List ℕ) → i < length operands
     → o ≡ get_or operands i o → new ≡ out ++ (codes ", " ++ o.name) → out ++ more_names_text (drop i operands) ≡ whole
@@ -65,7 +65,7 @@ next_name operands i o out new whole inside at added so_far =
     moved out (codes ", " ++ o.name) (more_names_text (drop (i + 1) operands)) new
     (more_names_text (drop i operands)) whole added (ap more_names_text left) so_far
 
--- ---- a text that is lent, or nothing
+-- ---- a text that is lent, or no text
 
 pub lent_or_nothing : (r : Option (Bor (List ℕ))) (t none : Bor (List ℕ)) (o : Option (List ℕ)) → t ≡ unwrap_or r none
     → none.now ≡ [] → option_map (λ (b : Bor (List ℕ)). b.now) r ≡ o → t.now ≡ unwrap_or o []

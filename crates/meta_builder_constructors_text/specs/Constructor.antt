@@ -23,7 +23,7 @@ array_member_text member names = text_of (at 3 (member ∷ codes ": [" ∷ names
 unfoldable pub field_members : List FormatField → List ℕ
 field_members fields = flat_map (λ (f : FormatField). member_text f.member) fields
 
--- the member of the values: their list, where the format has one, else the only value or an array, and nothing where there are none
+-- the member for the values: their list if the format has one, else the only value or an array, and no text if there is no value
 unfoldable pub value_member : Bool → ℕ → List ℕ
 value_member has_value_list count =
     if has_value_list then member_text (codes "args")
@@ -31,19 +31,19 @@ value_member has_value_list count =
     else (if count == 1 then member_text (codes "arg: arg0")
     else array_member_text (codes "args") (numbered_names (codes "arg") count)))
 
--- the member of the blocks with arguments: the only one, which has no comma behind it, or an array, and nothing where there are none
+-- the member for the blocks with arguments: the only one, which has no comma after it, or an array, and no text if there is no such block
 unfoldable pub block_member : ℕ → List ℕ
 block_member count =
     if count == 0 then []
     else (if count == 1 then text_of (at 3 (codes "destination: block0" ∷ []) ∷ [])
     else array_member_text (codes "blocks") (numbered_names (codes "block") count))
 
--- The member of the block without arguments, and nothing where there is none. A format in use has at most one: one that has more is
--- refused as `BadFormat`, and of several nothing would be written.
+-- The member for the block without arguments, and no text if there is no such block. A format in use has at most one: one that has more is
+-- refused as `BadFormat`, and nothing would be written for several.
 unfoldable pub raw_block_member : ℕ → List ℕ
 raw_block_member count = if count == 1 then member_text (codes "block: block0") else []
 
--- the members behind the opcode: fields, values, blocks with arguments, and a block without
+-- the members after the opcode: fields, values, blocks with arguments, and a block without
 unfoldable pub members_text : InstructionFormat → List ℕ
 members_text f =
     field_members f.imm_fields
@@ -57,16 +57,16 @@ members_text f =
 abbrev pub needs_masking : List FormatField → Bool
 needs_masking fields = list_any (λ (f : FormatField). same_text f.kind.rust_type (codes "ir::immediates::Imm64")) fields
 
--- the mark of data that is changed, behind `let`
+-- the mark of data that is changed, after `let`
 abbrev pub mut_mark : Bool → List ℕ
 mut_mark masked = if masked then codes " mut" else []
 
--- the masking, where it is needed
+-- the masking, if it is needed
 abbrev pub masking_text : Bool → List ℕ
 masking_text masked = if masked then text_of (at 2 (codes "data.mask_immediates(ctrl_typevar);" ∷ []) ∷ []) else []
 
--- The constructor of the format that has this name and is displayed so, with these arguments behind the first three, this mark of the
--- data, these members behind the opcode, and this masking. It tests that the opcode is of the format.
+-- The constructor of the format that has this name and is displayed so, with these arguments after the first three, this mark of the data,
+-- these members after the opcode, and this masking. It tests that the opcode is of the format.
 unfoldable pub constructor_with : List ℕ → List ℕ → List ℕ → List ℕ → List ℕ → List ℕ → List ℕ
 constructor_with name displayed arguments mark members masking =
     lines_onto (
@@ -86,8 +86,8 @@ constructor_with name displayed arguments mark members masking =
     ∷ at 2 (codes "self.build(data, ctrl_typevar)" ∷ [])
     ∷ at 1 (codes "}" ∷ []) ∷ [])))
 
--- The constructor of a format. It takes what the members hold behind `self`, the opcode and the control's type, makes the data of
--- the instruction, masks its immediates where one is of 64 bits, and inserts the instruction.
+-- The constructor of a format. After `self`, the opcode and the control's type, it takes what the members hold. It makes the data of the
+-- instruction, masks its immediates if one is of 64 bits, and inserts the instruction.
 unfoldable pub constructor_text : InstructionFormat → List ℕ
 constructor_text f =
     constructor_with f.name (format_text f) (constructor_arguments f) (mut_mark (needs_masking f.imm_fields)) (members_text f)

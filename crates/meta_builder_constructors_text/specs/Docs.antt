@@ -13,11 +13,11 @@ use Rattle.meta_text.specs.Lines.{at, text_of}
 abbrev pub has_text : List ℕ → Bool
 has_text line = not (length line == 0)
 
--- the first line of a documentation that isn't blank, without the white space at its ends, and nothing where each line is blank
+-- the first line of a documentation that isn't blank, without the white space at its ends, and no text if each line is blank
 unfoldable pub first_line : List ℕ → List ℕ
 first_line doc = unwrap_or (find has_text (map trim (lines doc))) []
 
--- a doc comment of one line: the space behind the slashes stands also where the line is empty
+-- a doc comment of one line: the space after the slashes is there even if the line is empty
 unfoldable pub doc_line_text : List ℕ → List ℕ
 doc_line_text doc = text_of (at 1 (codes "/// " ∷ doc ∷ []) ∷ [])
 
@@ -28,6 +28,6 @@ doc_heading_text heading = text_of (
     ∷ at 1 (codes "/// " ∷ heading ∷ codes ":" ∷ [])
     ∷ at 1 (codes "///" ∷ []) ∷ [])
 
--- the line on an input or an output of this name: `/// - x: A scalar`. The space behind the colon stands also where the doc is empty
+-- the line on an input or an output of this name: `/// - x: A scalar`. The space after the colon is there even if the doc is empty
 unfoldable pub doc_item_text : List ℕ → List ℕ → List ℕ
 doc_item_text name doc = text_of (at 1 (codes "/// - " ∷ name ∷ codes ": " ∷ doc ∷ []) ∷ [])

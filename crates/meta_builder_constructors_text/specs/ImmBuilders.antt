@@ -1,6 +1,6 @@
 -- The methods of the builder that take the last value input of an instruction as an immediate.
 --     imm_method_text m method           the lines of one of the three methods
---     imm_builders_text vars c           the lines of all three of an instruction
+--     imm_builders_text vars c           the lines of all three methods of an instruction
 use Rattle.std.specs.Prelude.{ℕ, ◌-◌, ◌==◌, ◌||◌, Bool, true, false, List, [], ◌∷◌, ◌++◌, length, slice_get, Option, None, Some, is_some}
 use Rattle.std.specs.Prelude.{codes, if◌then◌else◌}
 use Rattle.std.specs.List.{flat_map, enumerate_from}
@@ -20,11 +20,11 @@ use Rattle.meta_builder_constructors_text.specs.declared.imm_builders.Method.The
 
 -- ---- the inputs of the methods
 
--- what is said of an input: of the immediate, that it is one, and of any other its documentation
+-- what is said of an input: of the immediate, that it is one; of any other input, its documentation
 abbrev pub input_doc : List TypeVarContent → Operand → Bool → List ℕ
 input_doc vars o is_immediate = if is_immediate then codes "an immediate integer constant" else first_line (doc_of vars o)
 
--- the type of the argument for an input: of the immediate that which the method is generic in, of a value `Value`, and of any other
+-- the type of the argument for an input: for the immediate, the type parameter of the method; for a value, `Value`; for any other input,
 -- its Rust type
 abbrev pub input_type : Operand → Bool → List ℕ
 input_type o is_immediate = if is_immediate then codes "T" else (if is_some (variable_of o) then codes "Value" else o.kind.rust_type)
@@ -35,13 +35,13 @@ input_docs vars inputs immediate =
     flat_map (λ (input : ℕ × Operand). doc_item_text input.1.name (input_doc vars input.1 (input.0 == immediate)))
     (enumerate_from 0 inputs)
 
--- the arguments for them, each behind a comma and a space
+-- the arguments for the inputs, each after a comma and a space
 unfoldable pub input_arguments : List Operand → ℕ → List ℕ
 input_arguments inputs immediate =
     flat_map (λ (input : ℕ × Operand). argument_text input.1.name (input_type input.1 (input.0 == immediate)))
     (enumerate_from 0 inputs)
 
--- the names of them, parted by a comma and a space
+-- the names of the inputs, separated by a comma and a space
 unfoldable pub input_names : List Operand → List ℕ
 input_names inputs = names_text inputs
 
@@ -59,23 +59,23 @@ pub record ImmMethods : Type 0 where
   pub arguments : List ℕ
   pub inputs : List ℕ
 
--- what stands behind the name of the instruction in that of the method
+-- what comes after the name of the instruction in the name of the method
 abbrev pub suffix_of : Method → List ℕ
 suffix_of SignExtends = codes "_imm_s"
 suffix_of ZeroExtends = codes "_imm_u"
 suffix_of Deprecated = codes "_imm"
 
--- whether the method extends the immediate to the type by its sign, and not by zeros, where the deprecated one does so or not
+-- whether the method extends the immediate by its sign, and not by zeros; the last argument says it for the deprecated method
 abbrev pub extends_sign : Method → Bool → Bool
 extends_sign SignExtends signed = true
 extends_sign ZeroExtends signed = false
 extends_sign Deprecated signed = signed
 
--- how it extends, in words
+-- how the immediate is extended, in words
 abbrev pub extension_of : Bool → List ℕ
 extension_of extends = if extends then codes "sign-extended" else codes "zero-extended"
 
--- and as a word of the language
+-- whether the sign is extended, as a word of Rust
 abbrev pub truth_of : Bool → List ℕ
 truth_of extends = if extends then codes "true" else codes "false"
 
@@ -142,7 +142,7 @@ was_signed name =
     || (same_text name (codes "srem")
     || same_text name (codes "icmp"))))
 
--- what the methods of an instruction have in common, whose first and last value inputs stand at these places
+-- what the methods of an instruction have in common, from the places of its first and last value inputs
 abbrev pub methods_of : List TypeVarContent → BuiltInstruction → ℕ → ℕ → ImmMethods
 methods_of vars c first last = record {
   name = snake_name_of c.name;
@@ -154,16 +154,16 @@ methods_of vars c first last = record {
   inputs = input_names c.operands_in;
 }
 
--- its methods, where there are a first and a last value input
+-- its methods, if there are a first and a last value input
 abbrev pub methods_between : List TypeVarContent → BuiltInstruction → Option ℕ → Option ℕ → List ℕ
 methods_between vars c None last = []
 methods_between vars c (Some first) None = []
 methods_between vars c (Some first) (Some last) = three_methods_text (methods_of vars c first last)
 
--- The three methods of an instruction that take its last value input as an immediate: one extends its sign, one extends it by zeros,
--- and one, which is deprecated, does what an older form of the instruction did. They are for instructions with one value result, at
--- least two value inputs and no value list. Declarations that ask for them of another instruction are refused as `BadImmMethod`, so
--- no built instruction asks for them that isn't of this shape. Whether they are asked for is not looked at. Of an instruction without
--- value inputs nothing is written.
+-- The three methods of an instruction that take its last value input as an immediate: one extends its sign, one extends it by zeros, and
+-- one, which is deprecated, does what an older form of the instruction did. They are for instructions with one value result, at least two
+-- value inputs and no value list. Declarations that ask for them for another instruction are refused as `BadImmMethod`, so a built
+-- instruction that asks for them has this shape. Whether the instruction asks for them doesn't matter here. For an instruction without
+-- value inputs there is no text.
 unfoldable pub imm_builders_text : List TypeVarContent → BuiltInstruction → List ℕ
 imm_builders_text vars c = methods_between vars c (slice_get c.value_opnums 0) (slice_get c.value_opnums (length c.value_opnums - 1))

@@ -6,7 +6,7 @@ ghost use Rattle.meta_builder_constructors_text.specs.Arguments.{numbered_names,
 use meta_operands::{FormatField, InstructionFormat};
 use std::alloc::{AllocError, Global};
 
-/// Adds an argument of this name and type behind a comma and a space.
+/// Adds an argument of this name and type, after a comma and a space.
 #[tactic(auto, unfolding(crate::specs::Arguments::argument_text))]
 pub fn push_argument(out: &mut String, name: &str, ty: &str) -> Result<(), AllocError>
     ensures { OnOk result (string_bytes out.new ≡ string_bytes out.old ++ argument_text name.now ty.now) }
@@ -27,7 +27,7 @@ fn push_numbered_argument(
     write!(out, ", {stem}{number}: {ty}")
 }
 
-/// Adds so many arguments of one type, numbered from 0.
+/// Adds `count` arguments of one type, numbered from 0.
 #[tactic(auto, unfolding(crate::specs::Arguments::numbered_arguments))]
 fn push_numbered_arguments(
     out: &mut String,
@@ -43,7 +43,6 @@ fn push_numbered_arguments(
     Ok(())
 }
 
-/// Adds an argument for each field.
 #[tactic(auto, unfolding(crate::specs::Arguments::field_arguments))]
 fn push_field_arguments(out: &mut String, fields: &[FormatField]) -> Result<(), AllocError>
     ensures { OnOk result (string_bytes out.new ≡ string_bytes out.old ++ field_arguments fields.now) }
@@ -54,7 +53,7 @@ fn push_field_arguments(out: &mut String, fields: &[FormatField]) -> Result<(), 
     Ok(())
 }
 
-/// Adds the arguments for the values: one list, or so many values.
+/// Adds the arguments for the values: one list, or one argument for each value.
 #[tactic(auto, unfolding(crate::specs::Arguments::value_arguments))]
 fn push_value_arguments(
     out: &mut String,
@@ -69,7 +68,7 @@ fn push_value_arguments(
     push_numbered_arguments(out, "arg", "Value", count)
 }
 
-/// The arguments of the constructor of a format behind the first three, each behind a comma and a space.
+/// The arguments of the constructor of a format after the first three, each after a comma and a space.
 #[tactic(auto, unfolding(crate::specs::Arguments::constructor_arguments))]
 pub(crate) fn constructor_arguments(
     alloc: Global,
@@ -102,7 +101,7 @@ fn push_numbered_name(out: &mut String, stem: &str, number: u32) -> Result<(), A
     write!(out, "{stem}{number}")
 }
 
-/// The names that end in the numbers from 0 on, so many of them, parted by a comma and a space.
+/// The names that are the stem and a number, from 0, `count` of them, separated by a comma and a space.
 #[tactic(auto, unfolding(crate::specs::Arguments::numbered_names))]
 pub(crate) fn numbered_names(alloc: Global, stem: &str, count: u32) -> Result<String, AllocError>
     ensures { IfOk result (λ text. string_bytes text ≡ numbered_names stem.now count) }

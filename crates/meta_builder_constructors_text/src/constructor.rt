@@ -39,7 +39,6 @@ fn push_array(out: &mut String, member: &str, names: &str) -> Result<(), AllocEr
     write!(out, "            {member}: [{names}],\n")
 }
 
-/// Adds the member of each field.
 #[tactic(auto, unfolding(crate::specs::Constructor::field_members))]
 fn push_field_members(out: &mut String, fields: &[FormatField]) -> Result<(), AllocError>
     ensures { OnOk result (string_bytes out.new ≡ string_bytes out.old ++ field_members fields.now) }
@@ -50,7 +49,7 @@ fn push_field_members(out: &mut String, fields: &[FormatField]) -> Result<(), Al
     Ok(())
 }
 
-/// Adds the member of the values, where there is one.
+/// Adds the member for the values, if there are any.
 #[tactic(auto, unfolding(crate::specs::Constructor::value_member))]
 fn push_value_member(
     alloc: Global,
@@ -73,7 +72,7 @@ fn push_value_member(
     push_array(out, "args", names.as_str())
 }
 
-/// Adds the member of the blocks with arguments, where there is one.
+/// Adds the member for the blocks with arguments, if there are any.
 #[tactic(auto, unfolding(crate::specs::Constructor::block_member))]
 fn push_block_member(alloc: Global, out: &mut String, count: u32) -> Result<(), AllocError>
     ensures { OnOk result (string_bytes out.new ≡ string_bytes out.old ++ block_member count) }
@@ -88,7 +87,7 @@ fn push_block_member(alloc: Global, out: &mut String, count: u32) -> Result<(), 
     push_array(out, "blocks", names.as_str())
 }
 
-/// Adds the member of the block without arguments, where there is one.
+/// Adds the member for the block without arguments, if there is one.
 #[tactic(auto, unfolding(crate::specs::Constructor::raw_block_member))]
 fn push_raw_block_member(out: &mut String, count: u32) -> Result<(), AllocError>
     ensures { OnOk result (string_bytes out.new ≡ string_bytes out.old ++ raw_block_member count) }
@@ -99,7 +98,7 @@ fn push_raw_block_member(out: &mut String, count: u32) -> Result<(), AllocError>
     Ok(())
 }
 
-/// The members behind the opcode (`gen_member_inits` of `gen_inst.rs`).
+/// The members after the opcode (`gen_member_inits` of `gen_inst.rs`).
 #[tactic(auto, unfolding(crate::specs::Constructor::members_text))]
 fn members(alloc: Global, format: &InstructionFormat) -> Result<String, AllocError>
     ensures { IfOk result (λ text. string_bytes text ≡ members_text format.now) }
@@ -117,7 +116,7 @@ fn members(alloc: Global, format: &InstructionFormat) -> Result<String, AllocErr
     Ok(text)
 }
 
-/// Whether a field holds a number of 64 bits, which is to be masked.
+/// Whether a field holds a number of 64 bits, which has to be masked.
 fn needs_masking(fields: &[FormatField]) -> bool
     ensures { result ≡ needs_masking fields.now }
 {
@@ -136,7 +135,7 @@ fn mut_mark(masked: bool) -> &'static str
     ""
 }
 
-/// The masking, where it is needed.
+/// The masking, if it is needed.
 fn masking(masked: bool) -> &'static str
     ensures { result.now ≡ masking_text masked }
 {
@@ -146,7 +145,7 @@ fn masking(masked: bool) -> &'static str
     ""
 }
 
-/// Adds the constructor of the format of this name, which is displayed so, with what stands in its holes.
+/// Adds the constructor of the format of this name, which is displayed so, with the texts of its holes.
 #[tactic(auto, using(crate::proofs::Templates::constructor_same))]
 fn push_whole(
     out: &mut String,
@@ -168,7 +167,7 @@ fn push_whole(
     )
 }
 
-/// Adds the constructor of a format, without an empty line around it (`gen_format_constructor` of `gen_inst.rs`).
+/// Adds the constructor of a format, without an empty line around it, as `gen_format_constructor` of the crate's `gen_inst.rs` writes it.
 #[tactic(auto, unfolding(crate::specs::Constructor::constructor_text))]
 pub fn push_constructor(
     alloc: Global,

@@ -3,8 +3,8 @@ ghost use Rattle.meta_builder_constructors_text.specs.Docs.{first_line, doc_line
 
 use std::alloc::AllocError;
 
-/// The first line of a documentation that isn't blank, without the white space at its ends, and nothing where each line is blank.
-/// A doc is printed so (in the crate `doc_comment` of `cranelift_srcgen` prints each line).
+/// The first line of a documentation that isn't blank, without the white space at its ends. It is empty if each line is blank. Only this
+/// line of a documentation is printed; `doc_comment` of the crate `cranelift_srcgen` prints each line.
 #[tactic(auto, unfolding(crate::specs::Docs::first_line))]
 pub fn first_line(doc: &str) -> &str
     ensures { result.now ≡ first_line doc.now }
@@ -15,7 +15,7 @@ pub fn first_line(doc: &str) -> &str
         .unwrap_or("")
 }
 
-/// Adds a doc comment of one line, which stands before a method.
+/// Adds a doc comment of one line, before a method.
 #[tactic(auto, unfolding(crate::specs::Docs::doc_line_text))]
 pub fn push_doc_line(out: &mut String, doc: &str) -> Result<(), AllocError>
     ensures { OnOk result (string_bytes out.new ≡ string_bytes out.old ++ doc_line_text doc.now) }
@@ -23,7 +23,7 @@ pub fn push_doc_line(out: &mut String, doc: &str) -> Result<(), AllocError>
     write!(out, "    /// {doc}\n")
 }
 
-/// Adds the heading of the inputs or of the outputs in the doc comment of a method, between two empty lines of the comment.
+/// Adds a heading, `Inputs` or `Outputs`, to the doc comment of a method, between two empty lines of the comment.
 #[tactic(auto, unfolding(crate::specs::Docs::doc_heading_text))]
 pub fn push_doc_heading(out: &mut String, heading: &str) -> Result<(), AllocError>
     ensures { OnOk result (string_bytes out.new ≡ string_bytes out.old ++ doc_heading_text heading.now) }

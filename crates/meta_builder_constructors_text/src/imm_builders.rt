@@ -41,19 +41,19 @@ const IMM_METHOD_HOLES: [&str; 10] = [
     "signed",
 ];
 
-/// Which of the methods of an instruction that take an immediate.
+/// One of the methods of an instruction that take an immediate.
 #[derive(Clone, Copy)]
 pub(crate) enum Method {
-    /// That which extends the sign.
+    /// The method that extends the sign.
     SignExtends,
-    /// That which extends by zeros.
+    /// The method that extends by zeros.
     ZeroExtends,
-    /// That which does what an older form of the instruction did.
+    /// The method that does what an older form of the instruction did.
     Deprecated,
 }
 
 impl Method {
-    /// What stands behind the name of the instruction in that of the method.
+    /// What comes after the name of the instruction in the name of the method.
     fn suffix(self) -> &'static str
         ensures { result.now ≡ suffix_of self }
     {
@@ -64,7 +64,7 @@ impl Method {
         }
     }
 
-    /// Whether the method extends the sign, where the older form of the instruction did so or not.
+    /// Whether the method extends the sign. `was_signed` says whether the older form of the instruction did so.
     fn extends_sign(self, was_signed: bool) -> bool
         ensures { result ≡ extends_sign self was_signed }
     {
@@ -109,9 +109,9 @@ struct ImmMethods<'i> {
     immediate: &'i str,
     /// The lines on the inputs.
     docs: String,
-    /// The arguments for them, each behind a comma and a space.
+    /// The arguments for the inputs, each after a comma and a space.
     arguments: String,
-    /// Their names, parted by a comma and a space.
+    /// The names of the inputs, separated by a comma and a space.
     inputs: String,
 }
 
@@ -132,7 +132,7 @@ impl<'i> Model for ImmMethods<'i> {
     } };
 }
 
-/// The mark of the method of an instruction of this name that is deprecated.
+/// The mark of the deprecated method of an instruction of this name.
 #[tactic(auto, unfolding(crate::specs::ImmBuilders::mark_text))]
 fn mark(alloc: Global, name: &str, method: Method) -> Result<String, AllocError>
     ensures { IfOk result (λ text. string_bytes text ≡ mark_text name.now method) }
@@ -145,7 +145,7 @@ fn mark(alloc: Global, name: &str, method: Method) -> Result<String, AllocError>
     }
 }
 
-/// Adds a method with this mark, whose name ends in this suffix, and which extends the immediate so.
+/// Adds a method with this mark, whose name ends in this suffix. It extends the immediate as the last two texts say.
 fn push_extending<'x>(
     out: &mut String,
     methods: &'x ImmMethods<'x>,
@@ -198,7 +198,6 @@ fn push_method(
     )
 }
 
-/// Adds the three methods.
 #[tactic(auto, unfolding(crate::specs::ImmBuilders::three_methods_text))]
 fn push_methods(alloc: Global, out: &mut String, methods: &ImmMethods<'_>) -> Result<(), AllocError>
     ensures { OnOk result (string_bytes out.new ≡ string_bytes out.old ++ three_methods_text methods.now) }
@@ -217,7 +216,7 @@ fn was_signed(name: &str) -> bool
     name == "iadd" || name == "imul" || name == "sdiv" || name == "srem" || name == "icmp"
 }
 
-/// What the methods of an instruction have in common, whose first and last value inputs stand at these places.
+/// What the methods of an instruction have in common, from the places of its first and last value inputs.
 fn methods_of<'i>(
     alloc: Global,
     vars: &TypeVars,
@@ -240,11 +239,12 @@ fn methods_of<'i>(
     })
 }
 
-/// Adds the three methods of an instruction that take its last value input as an immediate, with an empty line between each two
-/// and none around them (`gen_imm_inst_builder` of `gen_inst.rs`). The variables of its inputs are of the registry.
+/// Adds the three methods of an instruction that take its last value input as an immediate, as `gen_imm_inst_builder` of the crate's
+/// `gen_inst.rs` writes them. There is an empty line between each two, and none around them. The variables of the inputs must be of the
+/// registry.
 ///
-/// Whether they are asked for is told by `inst_builder_imm_method` of the instruction. An instruction that asks for them, and is
-/// built, has the shape for them. Of an instruction without value inputs nothing is written.
+/// Whether the instruction asks for the methods is given by its `inst_builder_imm_method`. An instruction that asks for them, and is built,
+/// has the shape for them. For an instruction without value inputs nothing is written.
 #[tactic(auto, unfolding(crate::specs::ImmBuilders::imm_builders_text))]
 pub fn push_imm_builders(
     alloc: Global,

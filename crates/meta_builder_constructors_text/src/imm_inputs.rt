@@ -53,7 +53,7 @@ pub(crate) fn input_docs(
     Ok(text)
 }
 
-/// The arguments for the inputs, each behind a comma and a space.
+/// The arguments for the inputs, each after a comma and a space.
 #[tactic(auto, unfolding(crate::specs::ImmBuilders::input_arguments))]
 pub(crate) fn input_arguments(
     alloc: Global,
@@ -71,7 +71,7 @@ pub(crate) fn input_arguments(
     Ok(text)
 }
 
-/// The names of the inputs, parted by a comma and a space.
+/// The names of the inputs, separated by a comma and a space.
 #[tactic(auto, unfolding(crate::specs::ImmBuilders::input_names))]
 pub(crate) fn input_names(alloc: Global, inputs: &[Operand]) -> Result<String, AllocError>
     ensures { IfOk result (λ text. string_bytes text ≡ input_names inputs.now) }

@@ -1,9 +1,9 @@
-//! Two kinds of items of the text of the instruction builder, as the Rust source that the crate's generator writes: the
-//! constructors of the formats (`gen_format_constructor` of `gen_inst.rs`), and the methods that take an immediate for the last
-//! value input of an instruction (`gen_imm_inst_builder`).
+//! Two kinds of items of the text of the instruction builder, as Rust source: the constructors of the formats, as `gen_format_constructor`
+//! of the crate's `gen_inst.rs` writes them, and the methods that take an immediate for the last value input of an instruction, as
+//! `gen_imm_inst_builder` does.
 //!
-//! `push_constructor` and `push_imm_builders` add them to a text, without an empty line around them. What both kinds share with
-//! the other items of the builder, the doc comments, the arguments of a method and the names of operands, has calls of its own.
+//! `push_constructor` and `push_imm_builders` add them to a text, without an empty line around them. What both share with the other items
+//! of the builder has calls of its own: doc comments, the arguments of a method, and the names of operands.
 #![tactic(auto)]
 
 mod arguments;

@@ -3,7 +3,7 @@ ghost use Rattle.meta_builder_constructors_text.specs.Names.{operand_name};
 
 use meta_operands::Operand;
 
-/// The name of the operand at this place, counted from 0, and nothing where there is none.
+/// The name of the operand at this place, from 0. It is empty if there is no operand there.
 pub fn operand_name(operands: &[Operand], place: usize) -> &str
     ensures { result.now ≡ operand_name operands.now place }
 {

@@ -7,7 +7,7 @@ pub after : (old now new part other rest : List ℕ) → now ≡ old ++ part →
     → new ≡ old ++ (other ++ rest)
 after old now new part other rest e same f = two old other rest (e ∙ ap (λ t. old ++ t) same) f
 
--- one part more, behind a comma
+-- one part more, after a comma
 pub one_part : (f : ℕ → List ℕ) (n : ℕ) (old mid new : List ℕ) → old ≡ parted_to f n → mid ≡ old ++ codes ", "
     → new ≡ mid ++ f (n + 1) → new ≡ parted_to f (n + 1)
 one_part f n old mid new is comma part =

@@ -4,7 +4,7 @@ use Rattle.std.specs.List.{join_by}
 use Rattle.std.proofs.lemmas.List.Folds.{flat_map-map}
 use Rattle.meta_builder_text.specs.Arguments.{in_angles}
 
--- texts that are joined, where there is one
+-- texts that are joined, if there is at least one
 pub joined_in_angles : {X : Type 0} (v : X → List ℕ) (xs : List X) → (length xs == 0) ≡ false
     → codes "<" ++ (join_by v (codes ", ") xs ++ codes ">") ≡ in_angles (map v xs)
 joined_in_angles v [] h = absurd (cc)

@@ -1,4 +1,4 @@
--- What is given of each operand and those before it.
+-- What is given for each operand and those before it.
 use Rattle.std.proofs.Common.{◌≡◌, ℕ, ◌+◌, ◌<◌, ◌≤◌, List, [], ◌∷◌, ◌++◌, length, get_or, take, drop, sym, ap, ◌∙◌, append_assoc}
 use Rattle.std.proofs.lemmas.List.{take_more, drop_more, drop_all, append-nil}
 use Rattle.meta_operands.specs.declared.operand.Operand.{Operand}

@@ -1,6 +1,6 @@
 -- The arguments and the type parameters of the method that builds an instruction.
 --     arguments_text vars c format      what stands between the round brackets
---     type_parameters inputs            what stands behind the name, in angle brackets
+--     type_parameters inputs            what stands after the name, in angle brackets
 use Rattle.std.specs.Prelude.{ℕ, ◌+◌, Bool, ◌||◌, List, [], ◌∷◌, ◌++◌, count_by, Option, None, Some, if◌then◌else◌, codes}
 use Rattle.std.specs.List.{list_any, join_by}
 use Rattle.std.specs.Fmt.{decimal}
@@ -13,15 +13,15 @@ use Rattle.meta_inst.specs.declared.polymorphic.PolymorphicInfo.{PolymorphicInfo
 use Rattle.meta_builder_constructors_text.specs.Arguments.{argument_text}
 use Rattle.meta_builder_text.specs.Operands.{is_converted, is_mem_flags, variable_name}
 
--- what f gives of each operand and those before it, where these stand before the first
+-- what f gives for each operand and those before it, if the first has these before it
 abbrev pub each_with_before : {A : Type 0} → (List Operand → Operand → List A) → List Operand → List Operand → List A
 each_with_before f before [] = []
 each_with_before f before (o ∷ others) = f before o ++ each_with_before f (before ++ o ∷ []) others
 
 -- ---- type parameters
 
--- how many type parameters the arguments for these operands have: one for each that is converted, and the lifetime of the
--- arguments of blocks where there is a block
+-- how many type parameters the arguments for these operands have: one for each that is converted, and the lifetime of the arguments of
+-- blocks if there is a block
 abbrev pub parameter_count : List Operand → ℕ
 parameter_count operands = count_by is_converted operands + (if list_any is_block_operand operands then 1 else 0)
 
@@ -37,15 +37,15 @@ taken_type o = if is_mem_flags o then codes "ir::MemFlagsData" else o.kind.rust_
 unfoldable pub bound_text : List ℕ → List ℕ → List ℕ
 bound_text name converted = name ++ (codes ": Into<" ++ (converted ++ codes ">"))
 
--- the type parameter of the operand with its bound, where it has one
+-- the type parameter of the operand with its bound, if it has one
 abbrev pub bound_of : List Operand → Operand → List (List ℕ)
 bound_of before o = if is_converted o then (bound_text (parameter_name before) (taken_type o) ∷ []) else []
 
--- the lifetime of the arguments of blocks, where there is a block
+-- the lifetime of the arguments of blocks, if there is a block
 abbrev pub lifetime_of : List Operand → List (List ℕ)
 lifetime_of inputs = if list_any is_block_operand inputs then (codes "'a" ∷ []) else []
 
--- texts in angle brackets, parted by a comma and a space, and nothing where there are none
+-- texts in angle brackets, separated by a comma and a space, and no text if there are none
 abbrev pub in_angles : List (List ℕ) → List ℕ
 in_angles [] = []
 in_angles (first ∷ others) = codes "<" ++ (join_by (λ text. text) (codes ", ") (first ∷ others) ++ codes ">")
@@ -70,12 +70,12 @@ operand_arguments before o =
     else (if is_converted o then argument_text o.name (parameter_name before)
     else argument_text o.name o.kind.rust_type))
 
--- the control, where it is an argument: where the instruction has one that isn't the type of the designated operand
+-- the control, if it is an argument: if the instruction has one that isn't the type of the designated operand
 abbrev pub asked_control : Option PolymorphicInfo → Option ℕ
 asked_control None = None
 asked_control (Some info) = if info.use_typevar_operand then None else Some info.ctrl_typevar
 
--- the argument for the control, where it is one
+-- the argument for the control, if there is one
 unfoldable pub control_argument : List TypeVarContent → Option ℕ → List ℕ
 control_argument vars None = []
 control_argument vars (Some tv) = argument_text (variable_name vars tv) (codes "crate::ir::Type")
@@ -89,7 +89,7 @@ changes_builder inputs format = format.has_value_list || (list_any is_block_oper
 abbrev pub self_argument : List Operand → InstructionFormat → List ℕ
 self_argument inputs format = if changes_builder inputs format then codes "mut self" else codes "self"
 
--- the builder, the control where it is an argument, and the inputs in order
+-- the builder, the control if it is an argument, and the inputs in order
 unfoldable pub arguments_text : List TypeVarContent → BuiltInstruction → InstructionFormat → List ℕ
 arguments_text vars c format =
     self_argument c.operands_in format

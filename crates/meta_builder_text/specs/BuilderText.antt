@@ -30,7 +30,7 @@ unfoldable pub method_text : List TypeVarContent → BuiltInstruction → Option
 method_text vars c None = []
 method_text vars c (Some format) = inst_builder_text vars c format ++ gap_text
 
--- the methods that take an immediate for its last value, and an empty line, where they are asked for
+-- the methods that take an immediate for its last value, and an empty line, if the instruction asks for them
 unfoldable pub imm_methods_text : List TypeVarContent → BuiltInstruction → List ℕ
 imm_methods_text vars c = if c.marks.inst_builder_imm_method then (imm_builders_text vars c ++ gap_text) else []
 
@@ -61,8 +61,8 @@ trait_head = text_of (
     at 0 (codes "/// Convenience methods for building instructions." ∷ [])
     ∷ at 0 (codes "pub trait InstBuilder<'f>: InstBuilderBase<'f> {" ∷ []) ∷ [])
 
--- A trait with the methods that build each instruction, in order, and behind one more empty line with the constructors of the
--- formats in use, by their names.
+-- A trait with the methods that build each instruction, in order, and after one more empty line the constructors of the formats in use, by
+-- their names.
 unfoldable pub builder_text : BuiltDeclarations → List ℕ
 builder_text b =
     trait_head

@@ -10,7 +10,7 @@ use Rattle.meta_builder_text.specs.Arguments.{type_parameters, arguments_text}
 use Rattle.meta_builder_text.specs.MethodDocs.{method_docs}
 use Rattle.meta_builder_text.specs.MethodBody.{result_type, body_text}
 
--- the head of a method of this name, with its type parameters, its arguments and the type of what it gives
+-- the head of a method of this name, with its type parameters, its arguments and the type of its answer
 unfoldable pub method_head_text : List ℕ → List ℕ → List ℕ → List ℕ → List ℕ
 method_head_text name parameters arguments result = text_of (
     at 1 (codes "#[allow(non_snake_case, reason = \"generated code\")]" ∷ [])

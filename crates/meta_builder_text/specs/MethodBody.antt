@@ -21,7 +21,7 @@ use Rattle.meta_builder_text.specs.Operands.{is_converted, is_mem_flags, variabl
 unfoldable pub conversion_text : List ℕ → List ℕ
 conversion_text name = text_of (at 2 (codes "let " ∷ name ∷ codes " = " ∷ name ∷ codes ".into();" ∷ []) ∷ [])
 
--- the same, where the argument for the operand is converted
+-- the same, if the argument for the operand is converted
 unfoldable pub conversion_of : Operand → List ℕ
 conversion_of o = if is_converted o then conversion_text o.name else []
 
@@ -30,11 +30,11 @@ unfoldable pub mem_flags_text : List ℕ → List ℕ
 mem_flags_text name =
     text_of (at 2 (codes "let " ∷ name ∷ codes " = self.data_flow_graph_mut().mem_flags.insert(" ∷ name ∷ codes ").unwrap();" ∷ []) ∷ [])
 
--- the same, where the operand is such flags
+-- the same, if the operand is such flags
 unfoldable pub mem_flags_of : Operand → List ℕ
 mem_flags_of o = if is_mem_flags o && is_immediate_operand o then mem_flags_text o.name else []
 
--- the line that makes one of a block and of what is passed to it
+-- the line that makes one value of a block and of what is passed to it
 unfoldable pub block_call_text : List ℕ → List ℕ
 block_call_text name = text_of (
     at 2 (
@@ -43,13 +43,13 @@ block_call_text name = text_of (
     ∷ []
     )
 
--- the same, where the operand is a block
+-- the same, if the operand is a block
 unfoldable pub block_call_of : Operand → List ℕ
 block_call_of o = if is_block_operand o then block_call_text o.name else []
 
 -- ---- the control
 
--- the name of the operand that the format designates, and nothing where it designates none
+-- the name of the operand that the format designates, and no text if it designates none
 abbrev pub designated_name : BuiltInstruction → Option ℕ → List ℕ
 designated_name c None = []
 designated_name c (Some place) = operand_name c.operands_in place
@@ -62,7 +62,7 @@ designated_place c format = option_and_then (slice_get c.value_opnums) format.ty
 unfoldable pub inferred_text : List ℕ → List ℕ
 inferred_text name = text_of (at 2 (codes "let ctrl_typevar = self.data_flow_graph().value_type(" ∷ name ∷ codes ");" ∷ []) ∷ [])
 
--- the same, where the control is the type of the designated operand
+-- the same, if the control is the type of the designated operand
 unfoldable pub control_text : Option PolymorphicInfo → List ℕ → List ℕ
 control_text None name = []
 control_text (Some info) name = if info.use_typevar_operand then inferred_text name else []
@@ -89,29 +89,29 @@ one_value_line name = text_of (at 3 (codes "vlist.push(" ∷ name ∷ codes ", p
 unfoldable pub more_values_line : List ℕ → List ℕ
 more_values_line name = text_of (at 3 (codes "vlist.extend(" ∷ name ∷ codes ".iter().cloned(), pool);" ∷ []) ∷ [])
 
--- the line that adds the operand, where it is one value or a variable number
+-- the line that adds the operand, if it is one value or a variable number of them
 unfoldable pub added_text : Operand → List ℕ
 added_text o = if is_value_operand o then one_value_line o.name else (if is_varargs_operand o then more_values_line o.name else [])
 
--- the line behind them
+-- the line after them
 unfoldable pub value_list_end : List ℕ
 value_list_end = text_of (at 2 (codes "}" ∷ []) ∷ [])
 
--- the list of the values, where the format has one
+-- the list of the values, if the format has one
 unfoldable pub value_list_text : List Operand → InstructionFormat → List ℕ
 value_list_text inputs format = if format.has_value_list then (value_list_begin ++ (flat_map added_text inputs ++ value_list_end)) else []
 
 -- ---- the call of the format's constructor
 
--- the operands at these places as arguments, behind others
+-- the operands at these places as arguments, after others
 abbrev pub arguments_behind : List Operand → List ℕ → List ℕ
 arguments_behind inputs places = flat_map (λ place. codes ", " ++ operand_name inputs place) places
 
--- the values as arguments: the list where the format has one, and else each
+-- the values as arguments: the list if the format has one, and else each value
 unfoldable pub passed_values : BuiltInstruction → InstructionFormat → List ℕ
 passed_values c format = if format.has_value_list then codes ", vlist" else arguments_behind c.operands_in c.value_opnums
 
--- what stands behind the control: the immediates and entities, and then the values
+-- what comes after the control: the immediates and entities, and then the values
 unfoldable pub passed_operands : BuiltInstruction → InstructionFormat → List ℕ
 passed_operands c format = arguments_behind c.operands_in c.imm_opnums ++ passed_values c format
 
@@ -123,7 +123,7 @@ call_text constructor opcode control operands = text_of (
 
 -- ---- the results
 
--- what f gives of the numbers from 0 to the last, parted by a comma and a space
+-- what f gives for the numbers from 0 to the last, separated by a comma and a space
 abbrev pub parted_to : (ℕ → List ℕ) → ℕ → List ℕ
 parted_to f zero = f 0
 parted_to f (suc last) = parted_to f last ++ (codes ", " ++ f (suc last))
@@ -132,7 +132,7 @@ parted_to f (suc last) = parted_to f last ++ (codes ", " ++ f (suc last))
 unfoldable pub numbered_result : ℕ → List ℕ
 numbered_result number = codes "results[" ++ (decimal number ++ codes "]")
 
--- the lines that give so many results, which these are
+-- the lines that give this count of results, which have this text
 unfoldable pub several_text : ℕ → List ℕ → List ℕ
 several_text count results = text_of (
     at 2 (codes "let results = &dfg.inst_results(inst)[0.." ∷ decimal count ∷ codes "];" ∷ [])
@@ -146,14 +146,14 @@ instruction_line = text_of (at 2 (codes "inst" ∷ []) ∷ [])
 unfoldable pub one_result_line : List ℕ
 one_result_line = text_of (at 2 (codes "dfg.first_result(inst)" ∷ []) ∷ [])
 
--- the lines that give so many results, and the instruction itself where there are none
+-- the lines that give this count of results, or the instruction itself if there is no result
 unfoldable pub results_lines : ℕ → List ℕ
 results_lines count =
     if count == 0 then instruction_line
     else (if count == 1 then one_result_line
     else several_text count (parted_to numbered_result (count - 1)))
 
--- the type of so many results
+-- the type for this count of results
 unfoldable pub result_type : ℕ → List ℕ
 result_type count =
     if count == 0 then codes "Inst"

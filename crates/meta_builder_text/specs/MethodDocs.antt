@@ -1,5 +1,5 @@
 -- The documentation of the method that builds an instruction.
---     method_docs vars c      that of the instruction, and then its inputs and outputs
+--     method_docs vars c      the documentation of the instruction, and then its inputs and outputs
 use Rattle.std.specs.Prelude.{ℕ, ◌==◌, List, [], ◌∷◌, ◌++◌, length, Option, None, Some, if◌then◌else◌, codes}
 use Rattle.std.specs.List.{flat_map}
 use Rattle.meta_text.specs.Lines.{at, text_of}
@@ -15,7 +15,7 @@ use Rattle.meta_builder_text.specs.Arguments.{asked_control}
 unfoldable pub control_line : List ℕ → List ℕ → List ℕ
 control_line name doc = text_of (at 1 (codes "/// - " ∷ name ∷ codes " (controlling type variable): " ∷ doc ∷ []) ∷ [])
 
--- the line on the control, where it is an argument
+-- the line on the control, if it is an argument
 unfoldable pub control_doc : List TypeVarContent → Option ℕ → List ℕ
 control_doc vars None = []
 control_doc vars (Some tv) = control_line (variable_name vars tv) (variable_doc vars tv)
@@ -48,7 +48,7 @@ inputs_docs vars c = control_doc vars (asked_control c.polymorphic_info) ++ flat
 unfoldable pub outputs_docs : List TypeVarContent → BuiltInstruction → List ℕ
 outputs_docs vars c = flat_map (operand_line vars) c.operands_out
 
--- a list of this title with these lines, where there are lines
+-- a list of this title with these lines, if there are lines
 unfoldable pub titled : List ℕ → List ℕ → List ℕ
 titled title lines = if length lines == 0 then [] else (doc_heading_text title ++ lines)
 

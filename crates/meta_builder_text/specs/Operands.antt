@@ -19,12 +19,12 @@ is_mem_flags o = same_text o.kind.rust_type (codes "ir::MemFlags")
 
 -- ---- variables
 
--- the name of what stands at a place of the registry
+-- the name of the variable at a place of the registry
 abbrev pub variable_name_of : Option TypeVarContent → List ℕ
 variable_name_of None = []
 variable_name_of (Some content) = content.name
 
--- the name of a variable, and nothing where it isn't of the registry
+-- the name of a variable, and no text if it isn't of the registry
 abbrev pub variable_name : List TypeVarContent → ℕ → List ℕ
 variable_name vars tv = variable_name_of (slice_get vars tv)
 

@@ -45,7 +45,6 @@ fn push_operand(
     push_argument(out, operand.name.as_str(), operand.kind.rust_type.as_str())
 }
 
-/// Adds the arguments for the operands, in order.
 fn push_operands(alloc: Global, out: &mut String, operands: &[Operand]) -> Result<(), AllocError>
     ensures { OnOk result (string_bytes out.new ≡ string_bytes out.old ++ each_with_before operand_arguments [] operands.now) }
 {
@@ -56,7 +55,7 @@ fn push_operands(alloc: Global, out: &mut String, operands: &[Operand]) -> Resul
     Ok(())
 }
 
-/// The control, where it is an argument.
+/// The control, if it is an argument.
 pub(crate) fn asked_control(info: Option<PolymorphicInfo>) -> Option<TypeVar>
     ensures { result ≡ asked_control info }
 {
@@ -67,7 +66,7 @@ pub(crate) fn asked_control(info: Option<PolymorphicInfo>) -> Option<TypeVar>
     Some(info.ctrl_typevar)
 }
 
-/// Adds the argument for the control, where it is one.
+/// Adds the argument for the control, if there is one.
 #[tactic(auto, unfolding(crate::specs::Arguments::control_argument))]
 fn push_control(
     out: &mut String,

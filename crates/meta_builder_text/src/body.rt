@@ -23,7 +23,7 @@ fn push_conversion_text(out: &mut String, name: &str) -> Result<(), AllocError>
     write!(out, "        let {name} = {name}.into();\n")
 }
 
-/// Adds the line that converts the argument for the operand, where it is converted.
+/// Adds the line that converts the argument for the operand, if it is converted.
 #[tactic(auto, unfolding(crate::specs::MethodBody::conversion_of))]
 fn push_conversion(out: &mut String, operand: &Operand) -> Result<(), AllocError>
     ensures { OnOk result (string_bytes out.new ≡ string_bytes out.old ++ conversion_of operand.now) }
@@ -55,7 +55,7 @@ fn push_mem_flags_text(out: &mut String, name: &str) -> Result<(), AllocError>
     )
 }
 
-/// Adds the line that stores the operand, where it is flags of a memory access.
+/// Adds the line that stores the operand, if it is flags of a memory access.
 #[tactic(auto, unfolding(crate::specs::MethodBody::mem_flags_of))]
 fn push_mem_flags(out: &mut String, operand: &Operand) -> Result<(), AllocError>
     ensures { OnOk result (string_bytes out.new ≡ string_bytes out.old ++ mem_flags_of operand.now) }
@@ -76,7 +76,7 @@ fn push_each_mem_flags(out: &mut String, operands: &[Operand]) -> Result<(), All
     Ok(())
 }
 
-/// Adds the line that makes one of a block of this name and of what is passed to it.
+/// Adds the line that makes one value of a block of this name and of what is passed to it.
 #[tactic(auto, unfolding(crate::specs::MethodBody::block_call_text))]
 fn push_block_call_text(out: &mut String, name: &str) -> Result<(), AllocError>
     ensures { OnOk result (string_bytes out.new ≡ string_bytes out.old ++ block_call_text name.now) }
@@ -87,7 +87,7 @@ fn push_block_call_text(out: &mut String, name: &str) -> Result<(), AllocError>
     )
 }
 
-/// Adds the same line for the operand, where it is a block.
+/// Adds the same line for the operand, if it is a block.
 #[tactic(auto, unfolding(crate::specs::MethodBody::block_call_of))]
 fn push_block_call(out: &mut String, operand: &Operand) -> Result<(), AllocError>
     ensures { OnOk result (string_bytes out.new ≡ string_bytes out.old ++ block_call_of operand.now) }
@@ -98,7 +98,6 @@ fn push_block_call(out: &mut String, operand: &Operand) -> Result<(), AllocError
     push_block_call_text(out, operand.name.as_str())
 }
 
-/// Adds the lines of the blocks.
 fn push_block_calls(out: &mut String, operands: &[Operand]) -> Result<(), AllocError>
     ensures { OnOk result (string_bytes out.new ≡ string_bytes out.old ++ flat_map block_call_of operands.now) }
 {
@@ -116,7 +115,7 @@ fn designated_place(instruction: &InstructionContent, format: &InstructionFormat
     instruction.value_opnums().get(place).copied()
 }
 
-/// The name of the operand that the format designates, and nothing where it designates none.
+/// The name of the operand that the format designates. It is empty if the format designates none.
 fn designated_name<'a>(instruction: &'a InstructionContent, format: &InstructionFormat) -> &'a str
     ensures { result.now ≡ designated_name instruction.now (designated_place instruction.now format.now) }
 {
@@ -137,7 +136,7 @@ fn push_inferred(out: &mut String, name: &str) -> Result<(), AllocError>
     )
 }
 
-/// Adds the same line for the designated operand, which has this name, where its type is the control.
+/// Adds the same line for the designated operand, which has this name, if its type is the control.
 #[tactic(auto, unfolding(crate::specs::MethodBody::control_text))]
 fn push_control(
     out: &mut String,
@@ -188,7 +187,7 @@ fn push_more_values(out: &mut String, name: &str) -> Result<(), AllocError>
     )
 }
 
-/// Adds the line that adds the operand to the list, where it is one value or a variable number.
+/// Adds the line that adds the operand to the list, if it is one value or a variable number of them.
 #[tactic(auto, unfolding(crate::specs::MethodBody::added_text))]
 fn push_added(out: &mut String, operand: &Operand) -> Result<(), AllocError>
     ensures { OnOk result (string_bytes out.new ≡ string_bytes out.old ++ added_text operand.now) }
@@ -212,7 +211,7 @@ fn push_each_added(out: &mut String, operands: &[Operand]) -> Result<(), AllocEr
     Ok(())
 }
 
-/// Adds the line behind them.
+/// Adds the line after them.
 #[tactic(auto, unfolding(crate::specs::MethodBody::value_list_end))]
 fn push_list_end(out: &mut String) -> Result<(), AllocError>
     ensures { OnOk result (string_bytes out.new ≡ string_bytes out.old ++ value_list_end) }
@@ -220,7 +219,7 @@ fn push_list_end(out: &mut String) -> Result<(), AllocError>
     push_text(out, "        }\n")
 }
 
-/// Adds the list of the values, where the format has one.
+/// Adds the list of the values, if the format has one.
 #[tactic(auto, unfolding(crate::specs::MethodBody::value_list_text))]
 fn push_list(
     out: &mut String,

@@ -34,7 +34,7 @@ fn push_method(
     push_gap(out)
 }
 
-/// Adds the methods that take an immediate for the instruction's last value, and an empty line, where they are asked for.
+/// Adds the methods that take an immediate for the instruction's last value, and an empty line, if the instruction asks for them.
 #[tactic(auto, unfolding(crate::specs::BuilderText::imm_methods_text))]
 fn push_imm_methods(
     alloc: Global,
@@ -52,7 +52,6 @@ fn push_imm_methods(
     push_gap(out)
 }
 
-/// Adds the methods that build the instruction.
 #[tactic(auto, unfolding(crate::specs::BuilderText::methods_text))]
 fn push_methods(
     alloc: Global,
@@ -68,7 +67,6 @@ fn push_methods(
     push_imm_methods(alloc, out, vars, instruction)
 }
 
-/// Adds the methods that build the instructions.
 fn push_each_instruction(
     alloc: Global,
     out: &mut String,
@@ -135,19 +133,19 @@ pub trait InstBuilder<'f>: InstBuilderBase<'f> {
     )
 }
 
-/// The type variables, which are those of the instructions.
+/// The type variables. They are those of the instructions.
 fn variables(declarations: &Declarations) -> &TypeVars
     ensures vars { result.now ≡ declarations.now.set.vars }
     ensures fits { AreOfRegistries declarations.now.set.vars declarations.now.set.formats declarations.now.set.instructions }
 {
-    // the instructions say whose variables they have
+    // by the contract of `instructions`, their variables are of the registry
     let _instructions = declarations.instructions();
     declarations.vars()
 }
 
-/// The text of the instruction builder: a trait with the methods that build each instruction, in order, and the constructors of
-/// the formats in use, by their names (`gen_builder` of `gen_inst.rs`). The fixed methods that don't come from declarations are
-/// left out; the empty line between their two parts stays.
+/// Makes the text of the instruction builder, as `gen_builder` of the crate's `gen_inst.rs` does: a trait with the methods that build each
+/// instruction, in order, and the constructors of the formats in use, by their names. The fixed methods, which don't come from
+/// declarations, are left out. The empty line between the two parts of these methods stays.
 #[tactic(auto, unfolding(crate::specs::BuilderText::builder_text))]
 pub fn builder_text(alloc: Global, built: &Built<'_>) -> Result<String, AllocError>
     ensures { IfOk result (λ text. string_bytes text ≡ builder_text built.now) }

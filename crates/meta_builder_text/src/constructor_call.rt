@@ -22,7 +22,7 @@ fn passed_control(vars: &TypeVars, info: Option<PolymorphicInfo>) -> &str
     variable_name(vars, info.ctrl_typevar)
 }
 
-/// Adds the operands at these places as arguments, behind others.
+/// Adds the operands at these places as arguments, after others.
 fn push_passed(out: &mut String, inputs: &[Operand], places: &[usize]) -> Result<(), AllocError>
     ensures { OnOk result (string_bytes out.new ≡ string_bytes out.old ++ arguments_behind inputs.now places.now) }
 {
@@ -33,7 +33,7 @@ fn push_passed(out: &mut String, inputs: &[Operand], places: &[usize]) -> Result
     Ok(())
 }
 
-/// Adds the values as arguments: the list where the format has one, and else each.
+/// Adds the values as arguments: the list if the format has one, and else each value.
 #[tactic(auto, unfolding(crate::specs::MethodBody::passed_values))]
 fn push_passed_values(
     out: &mut String,
@@ -48,7 +48,7 @@ fn push_passed_values(
     push_passed(out, instruction.operands_in(), instruction.value_opnums())
 }
 
-/// What is passed behind the control: the immediates and entities, and then the values.
+/// What is passed after the control: the immediates and entities, and then the values.
 #[tactic(auto, unfolding(crate::specs::MethodBody::passed_operands))]
 fn passed_operands(
     alloc: Global,

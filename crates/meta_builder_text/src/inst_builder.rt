@@ -17,7 +17,7 @@ use meta_rust_lines::push_text;
 use meta_typevar::TypeVars;
 use std::alloc::{AllocError, Global};
 
-/// Adds the head of a method of this name, with its type parameters, its arguments and the type of what it gives.
+/// Adds the head of a method of this name, with its type parameters, its arguments and the type of its answer.
 #[tactic(auto, unfolding(crate::specs::InstBuilder::method_head_text))]
 fn push_head(
     out: &mut String,
@@ -37,7 +37,6 @@ fn push_head(
     )
 }
 
-/// Adds the end of a method.
 #[tactic(auto, unfolding(crate::specs::InstBuilder::inst_builder_end))]
 fn push_method_end(out: &mut String) -> Result<(), AllocError>
     ensures { OnOk result (string_bytes out.new ≡ string_bytes out.old ++ inst_builder_end) }
@@ -69,11 +68,11 @@ fn push_method_head(
     )
 }
 
-/// Adds the method that builds the instruction, which is of this format (`gen_inst_builder` of `gen_inst.rs`). The variables of
-/// its operands are of the registry.
+/// Adds the method that builds the instruction, which is of this format, as `gen_inst_builder` of the crate's `gen_inst.rs` writes it. The
+/// variables of its operands must be of the registry.
 ///
-/// An instruction that is built has a control of the registry, and an operand wherever its format designates one. Of a control
-/// that isn't of the registry, and of an operand that isn't there, no name is written.
+/// An instruction that is built has a control of the registry, and an operand wherever its format designates one. If the control isn't of
+/// the registry, or there is no such operand, no name is written.
 #[tactic(auto, unfolding(crate::specs::InstBuilder::inst_builder_text))]
 pub fn push_inst_builder(
     alloc: Global,

@@ -1,4 +1,4 @@
-//! The text of the instruction builder, as Rust source (`gen_inst_builder` and `gen_builder` of `gen_inst.rs`).
+//! The text of the instruction builder, as Rust source, as `gen_inst_builder` and `gen_builder` of the crate's `gen_inst.rs` write it.
 //!
 //! `builder_text` makes the whole text of what is built of declarations, and `push_inst_builder` adds the method that builds one
 //! instruction.

@@ -22,7 +22,7 @@ fn push_control_line(out: &mut String, name: &str, doc: &str) -> Result<(), Allo
     write!(out, "    /// - {name} (controlling type variable): {doc}\n")
 }
 
-/// Adds the line on the control, where it is an argument.
+/// Adds the line on the control, if it is an argument.
 #[tactic(auto, unfolding(crate::specs::MethodDocs::control_doc))]
 fn push_control_doc(
     out: &mut String,
@@ -81,7 +81,6 @@ fn push_input_docs(out: &mut String, vars: &TypeVars, operand: &Operand) -> Resu
     push_operand_line(out, vars, operand)
 }
 
-/// Adds the lines on the arguments for the inputs.
 fn push_each_input(
     out: &mut String,
     vars: &TypeVars,
@@ -96,7 +95,6 @@ fn push_each_input(
     Ok(())
 }
 
-/// Adds the lines on the outputs.
 fn push_each_output(
     out: &mut String,
     vars: &TypeVars,
@@ -128,7 +126,6 @@ fn inputs_docs(
     Ok(out)
 }
 
-/// The lines on the outputs.
 #[tactic(auto, unfolding(crate::specs::MethodDocs::outputs_docs))]
 fn outputs_docs(
     alloc: Global,
@@ -143,7 +140,7 @@ fn outputs_docs(
     Ok(out)
 }
 
-/// Adds a list of this title with these lines, where there are lines.
+/// Adds a list of this title with these lines, if there are lines.
 #[tactic(auto, unfolding(crate::specs::MethodDocs::titled))]
 fn push_titled(out: &mut String, title: &str, lines: &str) -> Result<(), AllocError>
     ensures { OnOk result (string_bytes out.new ≡ string_bytes out.old ++ titled title.now lines.now) }

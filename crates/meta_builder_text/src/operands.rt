@@ -46,7 +46,7 @@ pub(crate) fn has_mem_flags(operands: &[Operand]) -> bool
     false
 }
 
-/// The name of the variable, and nothing where it isn't of the registry.
+/// The name of the variable. It is empty if the variable isn't of the registry.
 pub(crate) fn variable_name(vars: &TypeVars, tv: TypeVar) -> &str
     ensures { result.now ≡ variable_name vars.now tv }
 {
@@ -56,7 +56,7 @@ pub(crate) fn variable_name(vars: &TypeVars, tv: TypeVar) -> &str
     vars.content(tv).name.as_str()
 }
 
-/// The documentation of the variable as it is printed, and nothing where it isn't of the registry.
+/// The documentation of the variable, as it is printed. It is empty if the variable isn't of the registry.
 #[tactic(auto, unfolding(crate::specs::Operands::variable_doc))]
 pub(crate) fn variable_doc(vars: &TypeVars, tv: TypeVar) -> &str
     ensures { result.now ≡ variable_doc vars.now tv }
@@ -67,7 +67,7 @@ pub(crate) fn variable_doc(vars: &TypeVars, tv: TypeVar) -> &str
     first_line(vars.content(tv).doc.as_str())
 }
 
-/// The documentation of the operand as it is printed. Its variable, where it is a value, is of the registry.
+/// The documentation of the operand, as it is printed. If the operand is a value, its variable must be of the registry.
 #[tactic(auto, unfolding(crate::specs::Operands::operand_doc))]
 pub(crate) fn operand_doc<'a>(vars: &'a TypeVars, operand: &'a Operand) -> &'a str
     requires { (tv : ℕ) → variable_of operand.now ≡ Some tv → tv < length vars.now }

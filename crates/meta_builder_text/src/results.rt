@@ -13,7 +13,7 @@ fn push_numbered(out: &mut String, number: usize) -> Result<(), AllocError>
     write!(out, "results[{number}]")
 }
 
-/// The results from the first to the last, parted by a comma and a space.
+/// The results from the first to the last, separated by a comma and a space.
 fn numbered_results(alloc: Global, last: usize) -> Result<String, AllocError>
     ensures { IfOk result (λ text. string_bytes text ≡ parted_to numbered_result last) }
 {
@@ -26,7 +26,7 @@ fn numbered_results(alloc: Global, last: usize) -> Result<String, AllocError>
     Ok(text)
 }
 
-/// Adds the lines that give so many results, which these are.
+/// Adds the lines that give `count` results, which have this text.
 #[tactic(auto, unfolding(crate::specs::MethodBody::several_text))]
 fn push_several(out: &mut String, count: usize, results: &str) -> Result<(), AllocError>
     ensures { OnOk result (string_bytes out.new ≡ string_bytes out.old ++ several_text count results.now) }
@@ -55,7 +55,6 @@ fn push_one_result(out: &mut String) -> Result<(), AllocError>
     push_text(out, "        dfg.first_result(inst)\n")
 }
 
-/// Adds the lines that give so many results.
 #[tactic(auto, unfolding(crate::specs::MethodBody::results_lines))]
 pub(crate) fn push_results(alloc: Global, out: &mut String, count: usize) -> Result<(), AllocError>
     ensures { OnOk result (string_bytes out.new ≡ string_bytes out.old ++ results_lines count) }
@@ -70,7 +69,7 @@ pub(crate) fn push_results(alloc: Global, out: &mut String, count: usize) -> Res
     push_several(out, count, results.as_str())
 }
 
-/// The types of the results from the first to the last, parted by a comma and a space.
+/// The types of the results from the first to the last, separated by a comma and a space.
 fn value_types(alloc: Global, last: usize) -> Result<String, AllocError>
     ensures { IfOk result (λ text. string_bytes text ≡ parted_to (λ number. codes "Value") last) }
 {
@@ -81,7 +80,7 @@ fn value_types(alloc: Global, last: usize) -> Result<String, AllocError>
     Ok(text)
 }
 
-/// The type of so many results.
+/// The type for this count of results.
 #[tactic(auto, unfolding(crate::specs::MethodBody::result_type))]
 pub(crate) fn result_type(alloc: Global, count: usize) -> Result<String, AllocError>
     ensures { IfOk result (λ text. string_bytes text ≡ result_type count) }

@@ -59,7 +59,7 @@ fn bound(alloc: Global, name: &str, converted: &str) -> Result<String, AllocErro
     format!(in alloc; "{name}: Into<{converted}>")
 }
 
-/// Adds the type parameter of the operand with its bound, where it has one.
+/// Adds the type parameter of the operand with its bound, if it has one.
 fn push_bound(
     alloc: Global,
     bounds: &mut Vec<String>,
@@ -92,7 +92,7 @@ fn push_bounds(
     Ok(())
 }
 
-/// Adds the lifetime of the arguments of blocks, where there is a block.
+/// Adds the lifetime of the arguments of blocks, if there is a block.
 fn push_lifetime(
     alloc: Global,
     parameters: &mut Vec<String>,
@@ -107,7 +107,7 @@ fn push_lifetime(
     Ok(())
 }
 
-/// The texts in angle brackets, parted by a comma and a space, and nothing where there are none.
+/// The texts in angle brackets, separated by a comma and a space. It is empty if there are no texts.
 fn in_angles(alloc: Global, texts: &[String]) -> Result<String, AllocError>
     ensures { IfOk result (λ text. string_bytes text ≡ in_angles (map string_bytes texts.now)) }
 {

@@ -1,4 +1,4 @@
--- Words ask one thing of the program itself at most.
+-- Words ask at most one thing of the program itself.
 use Rattle.std.proofs.Common.{◌≡◌, ◌∙◌, ◌↔◌, ℕ, zero, suc, Bool, IsTrue, inl, inr, ⊎_elim, List, [], ◌∷◌, length, slice_get, Some}
 use Rattle.std.proofs.Common.{refl, sym, ap, subst, arith}
 use Rattle.std.proofs.lemmas.Option.{same_Some}
@@ -10,7 +10,7 @@ use Rattle.meta_main.specs.declared.asked.Asked.TheVariants.{Help, Version, Work
 use Rattle.meta_file.specs.Over.{AskOverFile}
 use Rattle.meta_command_line.specs.Plan.{BeginWithVersion, AskForVersion, AskOfItself}
 
--- where words ask nothing of a file, they ask for a version of tables themselves
+-- if words ask nothing of a file, they ask for a version of tables themselves
 pub version_shared : (words asked : List (List ℕ)) (test : Bool) → asked ≡ words
     → ((path : List ℕ) (others : List (List ℕ)) → AskOverFile words path others → ⊥)
     → (IsTrue test ↔ BeginWithVersion asked) → (IsTrue test ↔ AskForVersion words)

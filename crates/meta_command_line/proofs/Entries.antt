@@ -51,7 +51,7 @@ begins : (words : List (List ℕ)) (first : List ℕ) (behind : List (List ℕ))
     → slice_get words 0 ≡ Some name → name ≡ first
 begins words first behind name e at = same_Some name first (sym at ∙ ap (λ (ws : List (List ℕ)). slice_get ws 0) e)
 
--- the first of words that have one too many
+-- the first of words with one word too many
 first_word : (over : Over) (place : ℕ) (name : List ℕ) → IsTooMany over place → slice_get (words_over over) 0 ≡ Some name
     → (name ≡ codes "check") ⊎ (name ≡ codes "tables")
 first_word (Shared words) place name (inl h) at = inl (begins words.now (codes "check") _ name h.1.are at)
@@ -60,7 +60,7 @@ first_word (Shared words) place name (inr (is, inr h)) at = inr (begins words.no
 first_word (File path words) place name (inl h) at = inl (begins words.now (codes "check") _ name h.1.are at)
 first_word (File path words) place name (inr h) at = inr (begins words.now (codes "tables") _ name h.1.are at)
 
--- with a word behind it that is no command
+-- the same with a word after it that is no command
 pub none_behind : (commands : List CommandForm) (over : Over) (place : ℕ) (name word : List ℕ) → AskWhatIsListed commands
     → IsTooMany over place → slice_get (words_over over) 0 ≡ Some name → AreTaken commands (name ∷ (word ∷ [])) → ⊥
 none_behind commands over place name word listed many at t = ⊎_elim (λ is. by (ap first_letter is)) (λ is. by_tables (ap first_letter is))

@@ -1,4 +1,4 @@
--- Nothing is wrong with words where no case holds.
+-- If no case holds, nothing is wrong with the words.
 use Rattle.std.proofs.Common.{◌≡◌, ◌∙◌, ◌↔◌, ℕ, Bool, true, false, IsTrue, List, ◌∷◌, sym, ap, ap₂, subst}
 use Rattle.std.specs.Prelude.{codes, Option, None}
 use Rattle.meta_table_text.specs.declared.version.Version.{Version}
@@ -23,7 +23,7 @@ not_asm over wrong words is h e begin = (subst (IsWrongIfAny over) is h) NoForm 
 pub no_truth : false ≡ true → ⊥
 no_truth e = absurd (cc)
 
--- whether the two words are those of a version tells whether the words name one that isn't
+-- the test for the two words of a version decides whether the words name a version that doesn't exist
 pub is_no_version : (words : List (List ℕ)) (name option version : List ℕ) (behind : List (List ℕ)) (test : Bool)
     → words ≡ name ∷ (option ∷ (version ∷ behind))
     → (IsTrue test ↔ ((name ≡ codes "tables") × (option ≡ codes "--version")))

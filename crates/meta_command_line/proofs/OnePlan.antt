@@ -1,4 +1,4 @@
--- Words have one plan at most.
+-- Words have at most one plan.
 use Rattle.std.proofs.Common.{◌≡◌, ◌∙◌, ℕ, inl, inr, List, [], length, refl, sym, subst, ap, ap₂, arith}
 use Rattle.std.specs.Prelude.{codes, Option, None, Some}
 use Rattle.meta_main.specs.declared.asked.Asked.TheVariants as asks
@@ -19,7 +19,7 @@ no_option : (word : List ℕ) → IsOption word → word ≡ codes "check" → �
 no_option word (inl o) e = let clash : 2 ≡ 5 = ap length (sym o ∙ e) in absurd (omega (arith, clash))
 no_option word (inr o) e = let clash : 14 ≡ 5 = ap length (sym o ∙ e) in absurd (omega (arith, clash))
 
--- words ask one thing of one file at most
+-- words ask at most one thing, of one file
 one_file : (words : List (List ℕ)) (p q : List ℕ) (a b : List (List ℕ)) → AskOverFile words p a → AskOverFile words q b
     → (p ≡ q) × (a ≡ b)
 one_file words p q a b (inl h) (inl g) = (ap second (sym h.2 ∙ g.2), ap behind_two (sym h.2 ∙ g.2))
@@ -51,7 +51,7 @@ over_words path words = record { asked = asks.Work; path = path; tool = None; wo
 
 module _ (one_tool : (t u : Tool) (words : List (List ℕ)) → AreToolWords t words → AreToolWords u words → t ≡ u)
     (words : List (List ℕ)) where
-  -- words that ask something of a file that are none of a check ask a tool
+  -- words that ask something of a file, and aren't those of a check, ask a tool
   nothing_of_file : (path : List ℕ) (asked : List (List ℕ)) (over : Over) → AskOverFile words path asked → IsOver words over
       → (path_of over ≡ Some path) × (asked_of over ≡ asked)
   nothing_of_file path asked (of_over.Shared x) h g = absurd (g.1 path asked h)

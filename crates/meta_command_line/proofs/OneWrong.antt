@@ -1,4 +1,4 @@
--- Words have one wrong case at most.
+-- Words have at most one case of `Wrong`.
 use Rattle.std.proofs.Common.{◌≡◌, ◌∙◌, ◌≤◌, ◌⊎◌, ℕ, inl, inr, ⊎_elim, List, [], ◌∷◌, length, refl, sym, ap, arith}
 use Rattle.std.specs.Prelude.{Option, Some, None}
 use Rattle.meta_file.specs.declared.over.Over.{Over}
@@ -8,13 +8,13 @@ use Rattle.meta_command_line.specs.declared.wrong.Wrong.{Wrong}
 use Rattle.meta_command_line.specs.declared.wrong.Wrong.TheVariants.{FileMissing, WordTooMany, NoVersion, NoForm}
 use Rattle.meta_command_line.proofs.Words.{second, third, letter}
 
--- where a file is missing, two words stand there at most
+-- if a file is missing, there are at most two words
 few : (over : Over) → IsFileMissing over → length (words_over over) ≤ 2
 few (Shared words) (inl h) = let count : length words.now ≡ 1 = ap length h.2 in omega (arith, count)
 few (Shared words) (inr h) = let count : length words.now ≡ 2 = ap length h in omega (arith, count)
 few (File path words) h = absurd h
 
--- where one is too many, three do at least
+-- if a word is too many, there are at least three
 many : (over : Over) (place : ℕ) → IsTooMany over place → 3 ≤ length (words_over over)
 many (Shared words) place (inl h) = omega (arith, ap length h.1.are)
 many (Shared words) place (inr (is, inl h)) = omega (arith, ap length h.are)
@@ -22,7 +22,7 @@ many (Shared words) place (inr (is, inr h)) = omega (arith, ap length h.are)
 many (File path words) place (inl h) = omega (arith, ap length h.1.are)
 many (File path words) place (inr h) = omega (arith, ap length h.1.are)
 
--- and where one is no version
+-- if a word is no version, there are at least three
 three : (words : List (List ℕ)) → NameNoVersion words → 3 ≤ length words
 three words h = omega (arith, ap length h.begin.are)
 
@@ -43,7 +43,7 @@ begin (Shared words) place (inr (is, inr h)) = inr (ap letter h.are)
 begin (File path words) place (inl h) = inl (ap letter h.1.are)
 begin (File path words) place (inr h) = inr (ap letter h.1.are)
 
--- and not with `asm`
+-- words with one too many don't begin with `asm`
 many_not_asm : (over : Over) (place : ℕ) → IsTooMany over place → BeginWithAsm (words_over over) → ⊥
 many_not_asm over place h g =
     let asm : letter (words_over over) ≡ 97 = ap letter g.are in
@@ -64,7 +64,7 @@ one_place (File path words) j k (inl h) (inr g) = let clash : 99 ≡ 116 = ap le
 one_place (File path words) j k (inr h) (inl g) = let clash : 99 ≡ 116 = ap letter (sym g.1.are ∙ h.1.are) in absurd (omega (arith, clash))
 one_place (File path words) j k (inr h) (inr g) = h.0 ∙ sym g.0
 
--- behind a version a word may be too many, and behind another word none is
+-- after a version a word may be too many, and after another word there isn't one
 no_version : (over : Over) (place : ℕ) → IsTooMany over place → NameNoVersion (words_over over) → ⊥
 no_version (Shared words) place (inl h) g = let clash : 99 ≡ 116 = ap letter (sym h.1.are ∙ g.begin.are) in absurd (omega (arith, clash))
 no_version (Shared words) place (inr (is, inl h)) g =
@@ -94,7 +94,7 @@ same_wrong over NoForm (WordTooMany k) h g = absurd (many_not_asm over k g h)
 same_wrong over NoForm NoVersion h g = absurd (version_not_asm (words_over over) g h)
 same_wrong over NoForm NoForm h g = refl
 
--- nor has it a case where it has none
+-- the case of words, if they have one, is determined too
 pub same_if_any : (over : Over) (a b : Option Wrong) → IsWrongIfAny over a → IsWrongIfAny over b → a ≡ b
 same_if_any over None None h g = refl
 same_if_any over None (Some b) h g = absurd (h b g)

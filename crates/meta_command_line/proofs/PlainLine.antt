@@ -25,7 +25,7 @@ name_is : (words : List (List ℕ)) (name word : List ℕ) → slice_get words 0
 name_is [] name word at is = absurd (cc)
 name_is (w ∷ words) name word at is = sym (same_Some _ _ at) ∙ is
 
--- what is said of a name, where the first word is this one
+-- what is said of a name, if the first word is this one
 missing_is : (words : List (List ℕ)) (line word : List ℕ) → SaysFileMissing words line → first words ≡ word → line ≡ missing_text word
 missing_is words line word h is = h.is ∙ ap missing_text (name_is words h.name word h.first is)
 

@@ -1,6 +1,6 @@
 -- What the words of the program ask for.
---     AskOfItself words asked     of the program itself
---     IsPlan words plan           in all
+--     AskOfItself words asked     what they ask of the program itself
+--     IsPlan words plan           all that they ask for
 use Rattle.std.specs.Prelude.{◌≡◌, ◌≢◌, ◌⊎◌, ⊤, ℕ, List, [], ◌∷◌, codes, Option, None, Some}
 use Rattle.meta_main.specs.Asked.{AsksFor}
 use Rattle.meta_main.specs.declared.asked.Asked.{Asked}
@@ -15,18 +15,18 @@ use Rattle.meta_file_check.specs.declared.asked.Names.{Names}
 use Rattle.meta_command_line.specs.declared.plan.Plan.{Plan}
 use Rattle.meta_command_line.specs.declared.plan.Plan.TheVariants.{Help, Version, Shared, File, Check, Nothing}
 
--- `tables --version` and a word, and whatever stands behind it
+-- `tables --version` and a word, and any words after it
 pub record BeginWithVersion (words : List (List ℕ)) : Type 0 where
   pub version : List ℕ
   pub behind : List (List ℕ)
   pub are : words ≡ codes "tables" ∷ (codes "--version" ∷ (version ∷ behind))
 
--- the words begin so, or those that they ask of a file
+-- the words begin in this way, or those that they ask of a file do
 abbrev pub AskForVersion : List (List ℕ) → Type 0
 AskForVersion words = BeginWithVersion words
     ⊎ ((path : List ℕ) × (asked : List (List ℕ)) × AskOverFile words path asked × BeginWithVersion asked)
 
--- what the words ask of the program itself: nothing where `--version` is a word of `tables`
+-- what the words ask of the program itself: nothing if `--version` is a word of `tables`
 abbrev pub AskOfItself : List (List ℕ) → Asked → Type 0
 AskOfItself words asked = (AskForVersion words × (asked ≡ asks.Work)) ⊎ ((AskForVersion words → ⊥) × AsksFor words asked)
 
@@ -35,9 +35,9 @@ abbrev pub IsNoCheck : Over → Type 0
 IsNoCheck (of_over.Shared asked) = ⊤
 IsNoCheck (of_over.File path asked) = (names : Names) → asked.now ≢ check_words names
 
--- What the words ask for: a tool over the shared declarations exactly where they ask nothing of a file; of a file a check exactly where
--- what is asked of it are the words of one, and else a tool; and nothing exactly where what is asked are the words of no tool and of no
--- check of a file.
+-- What the words ask for: a tool over the shared declarations exactly if they ask nothing of a file; a check of a file exactly if what they
+-- ask of it are the words of a check, and else a tool over the file; and nothing exactly if what they ask are the words of no tool and of
+-- no check of a file.
 abbrev pub IsPlan : List (List ℕ) → Plan → Type 0
 IsPlan words Help = AskOfItself words asks.Help
 IsPlan words Version = AskOfItself words asks.Version
@@ -48,7 +48,7 @@ IsPlan words (File path tool) = AskOfItself words asks.Work × (asked : List (Li
 IsPlan words (Check path names) = AskOfItself words asks.Work × AskOverFile words path.now (check_words names)
 IsPlan words (Nothing over) = AskOfItself words asks.Work × IsOver words over × (AskSomething (asked_of over) → ⊥) × IsNoCheck over
 
--- what a plan says: what is asked of the program itself, the path of the file, the tool, and the words that are those of a check or ask
+-- the parts of a plan: what is asked of the program itself, the path of the file, the tool, and the words that are those of a check or ask
 -- nothing
 pub record Planned : Type 0 where
   pub asked : Asked

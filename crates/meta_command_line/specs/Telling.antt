@@ -1,5 +1,5 @@
 -- What is said of how a run ended.
---     about tool ending     what the ending was about, and nothing where all is done
+--     about tool ending     what the ending was about, and no text if all is done
 use Rattle.std.specs.Prelude.{ℕ, List, Option, Some, codes}
 use Rattle.meta_run.specs.declared.ending.Ending.{Ending}
 use Rattle.meta_run.specs.declared.ending.Ending.TheVariants as ends
@@ -7,7 +7,7 @@ use Rattle.meta_main.specs.Telling.{about_text}
 use Rattle.meta_file.specs.declared.tool.Tool.{Tool}
 use Rattle.meta_file.specs.declared.tool.Tool.TheVariants.{Run, TablesIn, Verify, Asm, Flags, Audit, Check, Describe}
 
--- why a tool rejects: those without an input say what of the declarations can't be written
+-- why a tool rejects; a tool without an input says what of the declarations can't be written
 abbrev pub rejection_text : Tool → Option (List ℕ)
 rejection_text (Run command) = about_text ends.Rejected
 rejection_text (TablesIn version) = Some (codes "the tables don't fit the version")

@@ -1,5 +1,5 @@
 -- Why a file wasn't read whole.
---     trouble_text trouble path     what is said of that
+--     trouble_text trouble path     the text on it
 use Rattle.std.specs.Prelude.{ℕ, List, ◌++◌, Option, None, Some, codes}
 use Rattle.meta_file.specs.declared.file_ending.FileEnding.{FileEnding}
 use Rattle.meta_file.specs.declared.file_ending.FileEnding.TheVariants as of_file
@@ -15,7 +15,7 @@ trouble_of_run (of_file.Refused message) = None
 trouble_of_run of_file.FileFault = Some Unread
 trouble_of_run of_file.FileTooLong = Some TooLong
 
--- the same of a check of it
+-- the same for a check of it
 abbrev pub trouble_of_check : CheckEnding → Option FileTrouble
 trouble_of_check (of_check.Ran ending messages) = None
 trouble_of_check (of_check.NamesRefused messages) = None
@@ -23,7 +23,7 @@ trouble_of_check (of_check.Refused message) = None
 trouble_of_check of_check.FileFault = Some Unread
 trouble_of_check of_check.FileTooLong = Some TooLong
 
--- what is said of that
+-- the text on it
 abbrev pub trouble_text : FileTrouble → List ℕ → List ℕ
 trouble_text Unread path = path ++ codes " could not be read"
 trouble_text TooLong path = path ++ codes " is longer than 1048576 bytes"

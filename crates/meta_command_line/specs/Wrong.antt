@@ -1,5 +1,5 @@
 -- What is wrong with words that ask nothing.
---     IsWrong over wrong        what the list of commands alone doesn't tell
+--     IsWrong over wrong        what the list of commands alone doesn't say
 --     IsWrongLine .. over line  the line says what is wrong with words over the shared declarations, or a file
 use Rattle.std.specs.Prelude.{◌≡◌, ◌≢◌, ◌⊎◌, ℕ, List, [], ◌∷◌, ◌++◌, codes, slice_get, Option, None, Some}
 use Rattle.meta_main.specs.Misuse.{AreCommandWords}
@@ -35,7 +35,7 @@ pub record CheckRustMore (words : List (List ℕ)) : Type 0 where
   pub behind : List (List ℕ)
   pub are : words ≡ codes "check" ∷ (rust_word ∷ (path ∷ (word ∷ behind)))
 
--- the same of a file that is named before: `check --rust WORD ..`
+-- the same for a file that is named before: `check --rust WORD ..`
 pub record RustMore (words : List (List ℕ)) : Type 0 where
   pub word : List ℕ
   pub behind : List (List ℕ)
@@ -48,7 +48,7 @@ pub record VersionMore (words : List (List ℕ)) : Type 0 where
   pub behind : List (List ℕ)
   pub are : words ≡ codes "tables" ∷ (codes "--version" ∷ (version_word version ∷ (word ∷ behind)))
 
--- the word at this place, from 0, is the first that is too many behind a check or tables in a version
+-- the word at this place, from 0, is the first that is too many after a check or tables in a version
 abbrev pub IsTooMany : Over → ℕ → Type 0
 IsTooMany (Shared words) place = ((place ≡ 2) × CheckMore words.now)
     ⊎ ((place ≡ 3) × (CheckRustMore words.now ⊎ VersionMore words.now))
@@ -69,7 +69,7 @@ abbrev pub words_over : Over → List (List ℕ)
 words_over (Shared words) = words.now
 words_over (File path words) = words.now
 
--- no file is missing where one is named
+-- a file is missing; it isn't if one is named
 abbrev pub IsFileMissing : Over → Type 0
 IsFileMissing (Shared words) = MissFile words.now
 IsFileMissing (File path words) = ⊥
@@ -81,7 +81,7 @@ IsWrong over (WordTooMany place) = IsTooMany over place
 IsWrong over NoVersion = NameNoVersion (words_over over)
 IsWrong over NoForm = BeginWithAsm (words_over over)
 
--- that, or the list of commands tells what is wrong
+-- that, or the list of commands says what is wrong
 abbrev pub IsWrongIfAny : Over → Option Wrong → Type 0
 IsWrongIfAny over (Some wrong) = IsWrong over wrong
 IsWrongIfAny over None = (wrong : Wrong) → IsWrong over wrong → ⊥
@@ -92,7 +92,7 @@ pub record SaysFileMissing (words : List (List ℕ)) (line : List ℕ) : Type 0 
   pub first : slice_get words 0 ≡ Some name
   pub is : line ≡ codes "a file is missing for '" ++ (name ++ codes "'")
 
--- the line is that of the first word with the word at this place alone behind it
+-- the line is that of two words: the first word, and the word at this place
 pub record SaysTooMany (commands : List CommandForm) (words : List (List ℕ)) (place : ℕ) (line : List ℕ) : Type 0 where
   pub name : List ℕ
   pub first : slice_get words 0 ≡ Some name
@@ -100,7 +100,7 @@ pub record SaysTooMany (commands : List CommandForm) (words : List (List ℕ)) (
   pub at : slice_get words place ≡ Some word
   pub is : IsUsageLine commands (name ∷ (word ∷ [])) line
 
--- the line says so, where these are the commands
+-- the line says what is wrong, if these are the commands
 abbrev pub Says : List CommandForm → List (List ℕ) → Option Wrong → List ℕ → Type 0
 Says commands words (Some FileMissing) line = SaysFileMissing words line
 Says commands words (Some (WordTooMany place)) line = SaysTooMany commands words place line

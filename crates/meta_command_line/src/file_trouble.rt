@@ -6,17 +6,17 @@ use meta_file_check::CheckEnding;
 use meta_types::Text;
 use std::alloc::{AllocError, Global};
 
-/// Why a file wasn't read whole (this project's own).
+/// Why a file wasn't read whole.
 #[derive(Clone, Copy, Debug, PartialEq, Eq)]
 pub enum FileTrouble {
-    /// It can't be read.
+    /// The file can't be read.
     Unread,
-    /// It has more than 1,048,576 bytes.
+    /// The file has more than 1,048,576 bytes.
     TooLong,
 }
 
 impl FileTrouble {
-    /// Why not, where a run over a file ended so.
+    /// Why the file wasn't read whole, if a run over it ended for that. `None` for any other ending.
     pub fn of_run(ending: &FileEnding) -> Option<FileTrouble>
         ensures { result ≡ trouble_of_run ending.now }
     {
@@ -27,7 +27,7 @@ impl FileTrouble {
         }
     }
 
-    /// Why not, where a check of a file ended so.
+    /// Why the file wasn't read whole, if a check of it ended for that. `None` for any other ending.
     pub fn of_check(ending: &CheckEnding) -> Option<FileTrouble>
         ensures { result ≡ trouble_of_check ending.now }
     {
@@ -39,7 +39,7 @@ impl FileTrouble {
         }
     }
 
-    /// What is said of it: the path, which may have any bytes, and why.
+    /// The line on it: the path, which may have any bytes, and why.
     pub fn line(self, alloc: Global, path: &Text) -> Result<String, AllocError>
         ensures { IfOk result (λ line. string_bytes line ≡ trouble_text self path.now) }
     {

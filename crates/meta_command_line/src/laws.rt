@@ -14,7 +14,7 @@ pub fn one_plan()
     one_tool();
 }
 
-/// Words have one wrong case at most, and none besides where a list of commands tells what is wrong.
+/// At most one `Wrong` fits the words. If none fits, the list of commands says what is wrong.
 pub fn one_wrong()
     ensures case { (over : spec_Over) (a b : spec_Wrong) → IsWrong over a → IsWrong over b → a ≡ b }
     ensures any { (over : spec_Over) (a b : Option spec_Wrong) → IsWrongIfAny over a → IsWrongIfAny over b → a ≡ b }

@@ -1,6 +1,6 @@
-//! What the words of the program `ciderlater` ask for, and what it says of them and of how that ended.
+//! What the words of the program `ciderlater` ask for, and what it says of them and of how a run ended.
 //!
-//! `Plan::of` says what is to be done. The program does it, and says what the other calls tell.
+//! `Plan::of` says what is to be done. The program does it, and says what the other calls give.
 #![tactic(auto)]
 
 mod file_trouble;

@@ -8,16 +8,16 @@ use meta_file_check::Names;
 use meta_main::Asked;
 use meta_types::Text;
 
-/// What the words of the program ask for (this project's own).
+/// What the words of the program ask for.
 #[derive(Clone, Copy)]
 pub enum Plan<'w> {
     /// The help of the program.
     Help,
-    /// Its version.
+    /// The version of the program.
     Version,
     /// This tool over the shared declarations.
     Shared(Tool),
-    /// This tool over the declarations of the file at this path, where that is no check.
+    /// This tool over the declarations of the file at this path. A check is `Check`.
     File(&'w Text, Tool),
     /// A check of the file at this path, and what it does with names that Rust refuses.
     Check(&'w Text, Names),
@@ -42,7 +42,7 @@ fn begin_with_version(words: &[Text]) -> bool
     }
 }
 
-/// Whether they do, or those that they ask of a file.
+/// Whether the words do, or those that they ask of a file.
 fn ask_for_version(words: &[Text]) -> bool
     ensures { IsTrue result ↔ AskForVersion words.now }
 {
@@ -52,7 +52,7 @@ fn ask_for_version(words: &[Text]) -> bool
     }
 }
 
-/// What the words ask of the program itself: behind `tables`, `--version` and a word ask for the tables in a version of their text.
+/// What the words ask of the program itself. After `tables`, `--version` and a word ask for the tables in a version of their text.
 fn asked_of_itself(words: &[Text]) -> Asked
     ensures { AskOfItself words.now result }
 {
@@ -63,7 +63,7 @@ fn asked_of_itself(words: &[Text]) -> Asked
 }
 
 impl<'w> Plan<'w> {
-    /// What the words ask for, which are all words behind the name of the program.
+    /// What the words ask for. They are all words after the name of the program.
     pub fn of(words: &'w [Text]) -> Plan<'w>
         ensures { IsPlan words.now result }
     {
@@ -74,7 +74,7 @@ impl<'w> Plan<'w> {
         }
     }
 
-    /// The same of words that ask nothing of the program itself.
+    /// What the words ask for, if they ask nothing of the program itself.
     fn of_work(words: &'w [Text]) -> Plan<'w>
         requires { AskOfItself words.now spec_asked.Work }
         ensures { IsPlan words.now result }
@@ -85,7 +85,7 @@ impl<'w> Plan<'w> {
         }
     }
 
-    /// The same of words that ask this of the shared declarations.
+    /// The same for words that ask this of the shared declarations.
     fn over_shared(_words: &'w [Text], asked: &'w [Text]) -> Plan<'w>
         requires work { AskOfItself _words.now spec_asked.Work }
         requires same { asked.now ≡ _words.now }
@@ -98,7 +98,7 @@ impl<'w> Plan<'w> {
         }
     }
 
-    /// The same of words that ask this of the file at a path.
+    /// The same for words that ask this of the file at a path.
     fn over_file(_words: &'w [Text], path: &'w Text, asked: &'w [Text]) -> Plan<'w>
         requires work { AskOfItself _words.now spec_asked.Work }
         requires over { AskOverFile _words.now path.now asked.now }

@@ -11,7 +11,7 @@ use meta_main::{CommandForm, Manual, usage_line};
 use meta_types::Text;
 use std::alloc::{AllocError, Global};
 
-/// The usage line of words that are none of these commands. It says nothing else of a program.
+/// The usage line of words that are none of these commands. It names no program.
 fn usage_of(
     alloc: Global,
     commands: &'static [CommandForm],
@@ -30,7 +30,7 @@ fn usage_of(
     usage_line(alloc, &manual, words)
 }
 
-/// A file is missing for the first word; where there is none, that is handled as want of memory.
+/// The line that a file is missing for the first word. If there were no first word, the error would be `AllocError`.
 fn file_missing(alloc: Global, words: &[Text]) -> Result<String, AllocError>
     requires { MissFile words.now }
     ensures plain { IfOk result (λ line. IsPlain (string_bytes line)) }
@@ -68,7 +68,7 @@ fn usage_of_both(
     usage_of(alloc, commands, &words)
 }
 
-/// The word at this place is too many; where there is none, that is handled as want of memory.
+/// The line that the word at this place is too many. If there were no such word, the error would be `AllocError`.
 fn word_too_many(
     alloc: Global,
     commands: &'static [CommandForm],
@@ -91,7 +91,7 @@ fn word_too_many(
     usage_of_both(alloc, commands, name, word)
 }
 
-/// The list of commands tells what is wrong.
+/// The line that the list of commands gives.
 fn no_command(
     alloc: Global,
     commands: &'static [CommandForm],
@@ -106,7 +106,7 @@ fn no_command(
     usage_of(alloc, commands, words)
 }
 
-/// What is wrong, if it is that.
+/// The line on what is wrong, if it is this.
 fn said(
     alloc: Global,
     commands: &'static [CommandForm],
@@ -131,9 +131,8 @@ fn said(
     }
 }
 
-/// What is wrong with words that ask nothing over the shared declarations or a file, where these are the commands, as those of
-/// `listed_tools` are: one line, without its line feed. Where the names of the commands are plain, so is each byte of it (this
-/// project's own).
+/// What is wrong with words that ask nothing over the shared declarations or a file, in one line, without its line feed. `commands` are the
+/// commands, as `listed_tools` lists them. If their names are plain, each byte of the line is plain.
 pub fn wrong_line(
     alloc: Global,
     commands: &'static [CommandForm],

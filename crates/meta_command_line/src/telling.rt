@@ -21,7 +21,7 @@ fn rejection(tool: Tool) -> Option<&'static str>
     }
 }
 
-/// What the ending of a run of this tool was about, for a person, and `None` where all is done (this project's own).
+/// Why the ending of a run of this tool isn't `Done`, for a person. `None` if it is.
 pub fn about(tool: Tool, ending: Ending) -> Option<&'static str>
     ensures { option_copied result ≡ about tool ending }
 {

@@ -9,16 +9,16 @@ use super::plan::are_for_version;
 use meta_file::{Over, is_asm, is_check, is_option, is_rust};
 use meta_types::Text;
 
-/// What is wrong with words that ask nothing, beside what a list of commands tells (this project's own).
+/// What is wrong with words that ask nothing, apart from what the list of commands says.
 #[derive(Clone, Copy, Debug, PartialEq, Eq)]
 pub enum Wrong {
-    /// A file is missing behind the first word.
+    /// A file is missing after the first word.
     FileMissing,
-    /// The word at this place, counted from 0, is too many for the first word.
+    /// The word at this place, from 0, is too many for the first word.
     WordTooMany(usize),
-    /// The word behind `tables --version` is no version.
+    /// The word after `tables --version` is no version.
     NoVersion,
-    /// What stands behind `asm` is no form.
+    /// The words after `asm` are no form.
     NoForm,
 }
 
@@ -31,7 +31,6 @@ fn is_version(word: &Text) -> bool
     word == b"1".as_slice() || word == b"2".as_slice() || word == b"3".as_slice()
 }
 
-/// Whether a file is missing.
 fn miss_file(words: &[Text]) -> bool
     ensures { IsTrue result ↔ MissFile words.now }
 {
@@ -52,7 +51,7 @@ fn are_check_more(words: &[Text]) -> bool
     }
 }
 
-/// Whether they are one that refuses names, and more.
+/// Whether the words are a check that refuses names, and more.
 fn are_check_rust_more(words: &[Text]) -> bool
     ensures { IsTrue result ↔ CheckRustMore words.now }
 {
@@ -62,7 +61,7 @@ fn are_check_rust_more(words: &[Text]) -> bool
     }
 }
 
-/// Whether they are one of a file that is named before, and more.
+/// Whether the words are such a check of a file that is named before, and more.
 fn are_rust_more(words: &[Text]) -> bool
     ensures { IsTrue result ↔ RustMore words.now }
 {
@@ -72,7 +71,7 @@ fn are_rust_more(words: &[Text]) -> bool
     }
 }
 
-/// Whether they are tables in a version, and more.
+/// Whether the words are tables in a version, and more.
 fn are_version_more(words: &[Text]) -> bool
     ensures { IsTrue result ↔ VersionMore words.now }
 {
@@ -84,7 +83,7 @@ fn are_version_more(words: &[Text]) -> bool
     }
 }
 
-/// Whether they are `tables --version` and no version, where there are three words and more.
+/// Whether the words are `tables --version` and no version, if there are at least three.
 fn no_version_behind(
     words: &[Text],
     name: &Text,
@@ -101,7 +100,7 @@ fn no_version_behind(
     are_for_version(name, option)
 }
 
-/// Whether they are `tables --version` and no version.
+/// Whether the words are `tables --version` and no version.
 fn name_no_version(words: &[Text]) -> bool
     ensures { IsTrue result ↔ NameNoVersion words.now }
 {
@@ -113,7 +112,6 @@ fn name_no_version(words: &[Text]) -> bool
     }
 }
 
-/// Whether they begin with `asm`.
 fn begin_with_asm(words: &[Text]) -> bool
     ensures { IsTrue result ↔ BeginWithAsm words.now }
 {
@@ -123,7 +121,6 @@ fn begin_with_asm(words: &[Text]) -> bool
     }
 }
 
-/// Whether a file is missing.
 fn is_file_missing(over: &Over<'_>) -> bool
     ensures { IsTrue result ↔ IsFileMissing over.now }
 {
@@ -133,7 +130,7 @@ fn is_file_missing(over: &Over<'_>) -> bool
     }
 }
 
-/// The place of the first word that is too many behind a check or tables in a version.
+/// The place of the first word that is too many after a check or tables in a version.
 fn too_many(over: &Over<'_>) -> Option<usize>
     ensures some { IfSome result (IsTooMany over.now) }
     ensures none { IfNone result ((place : ℕ) → ¬ IsTooMany over.now place) }
@@ -168,7 +165,8 @@ pub(crate) fn words_of<'w>(over: &Over<'w>) -> &'w [Text]
 }
 
 impl Wrong {
-    /// What is wrong with words that ask nothing over the shared declarations or a file, and `None` where a list of the commands tells it.
+    /// What is wrong with words that ask nothing over the shared declarations or a file. It is `None` if the list of commands says what is
+    /// wrong.
     #[tactic(auto, using(crate::proofs::NotWrong::not_wrong))]
     pub fn of(over: &Over<'_>) -> Option<Wrong>
         ensures some { IfSome result (IsWrong over.now) }

@@ -53,7 +53,7 @@ entries_built (g ∷ gs) =
 pub counted : (d : Declared) (t : WholeTables) (line : List ℕ) → AreWholeTablesOf d t → line ≡ line_of_counts d t → IsCheckLine d line
 counted d t line are is = record { tables = t; are = are; is = is }
 
--- the tables of declarations are one, and so is the line
+-- declarations determine their tables, and so the line
 pub one_line : (d : Declared) → ((one other : WholeTables) → AreWholeTablesOf d one → AreWholeTablesOf d other → one ≡ other)
     → (line other : List ℕ) → IsCheckLine d line → IsCheckLine d other → line ≡ other
 one_line d one_table line other h g = h.is ∙ ap (line_of_counts d) (one_table h.tables g.tables h.are g.are) ∙ sym g.is

@@ -1,4 +1,4 @@
--- From how a run over a file ended to what it did.
+-- What a run over a file did, by how it ended.
 use Rattle.std.proofs.Common.{◌≡◌, ◌≢◌, ◌<◌, ◌≤◌, inl, inr, ℕ, List, [], ◌++◌, length, length-append, Option, None, Some, refl}
 use Rattle.std.proofs.Common.{sym, ap, ◌∙◌, subst, arith}
 use Rattle.std.proofs.lemmas.List.{append-nil}
@@ -17,7 +17,7 @@ use Rattle.meta_file.specs.declared.tool.Tool.{Tool}
 use Rattle.meta_file.specs.declared.file_ending.FileEnding.{FileEnding}
 use Rattle.meta_file.specs.declared.file_ending.FileEnding.TheVariants.{Ran, Refused, FileFault, FileTooLong}
 
--- what was read is all that was left, where that was told and nothing is left now
+-- what was read is all that was left, if contracts see the bytes and nothing is left now
 read_all : (input bytes : List ℕ) (left' : Option (List ℕ)) → Some input ≡ with_front bytes left' → NothingLeft left' → bytes ≡ input
 read_all input bytes None e end = absurd (cc)
 read_all input bytes (Some rest) e end =
@@ -44,7 +44,7 @@ gave_within input left left' told few h = within left' (sym told ∙ h.given)
         let m = more in
         omega (arith, ap length whole, length-append h.bytes rest)
 
--- what isn't read gives nothing
+-- what isn't read gives no bytes
 pub gave_nothing : (left : Option (List ℕ)) → GaveAtMost longest_input left left
 gave_nothing None = record { bytes = []; given = refl; within = omega arith }
 gave_nothing (Some rest) = record { bytes = []; given = refl; within = omega arith }
@@ -101,7 +101,7 @@ module _ {F S K : Type 0} (file_left : F → Option (List ℕ)) (file_reads : F 
   refuses FileFault did text given asks none memory = absurd (given.2 did.1)
   refuses FileTooLong did text given asks none memory = absurd (gave_within text (file_left f) (file_left f') given.0 given.1 did.1)
 
-  -- only what declares nothing, or what shows a fault, is refused
+  -- only a file that declares nothing, or whose declarations have a fault, is refused
   pub refused_only : (ending : FileEnding) → Did ending
       → IsRefusedOnly file_left file_reads left reads taken writes Means path f f' s s' k k' ending
   refused_only ending did message text d is given declares valid = by (subst (λ (e : FileEnding). Did e) is did)
@@ -128,7 +128,7 @@ module _ {F S K : Type 0} (file_left : F → Option (List ℕ)) (file_reads : F 
   too_long FileFault did text told more no_fault asks memory = absurd (no_fault did.1)
   too_long FileTooLong did text told more no_fault asks memory = (refl, did.2)
 
-  -- where no fault of the source is told, no read of it failed
+  -- unless the ending is a fault of the source, no read of it failed
   pub else_no_fault : (ending : FileEnding) → Did ending → ending ≢ Ran ends.ReadFault → reads s' ≡ reads s
   else_no_fault (Ran ending) (inl ran) other = ran.ran.ran.else_no_fault (λ e. other (ap Ran e))
   else_no_fault (Ran ending) (inr (inl nothing)) other = ap reads nothing.3.0
@@ -137,7 +137,7 @@ module _ {F S K : Type 0} (file_left : F → Option (List ℕ)) (file_reads : F 
   else_no_fault FileFault did other = ap reads did.2.0
   else_no_fault FileTooLong did other = ap reads did.2.0
 
-  -- words that ask nothing end so, and no others
+  -- words that ask nothing are a usage error, and no others are
   pub asks_nothing : (ending : FileEnding) → Did ending → (IsAsked Means → ⊥) → ending ≡ Ran ends.Usage
   asks_nothing (Ran ending) (inl ran) none = absurd (none (ran.ran.tool, ran.ran.asked))
   asks_nothing (Ran ending) (inr (inl nothing)) none = ap Ran nothing.1

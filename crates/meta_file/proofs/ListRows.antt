@@ -52,7 +52,7 @@ abbrev differ : List (List ℕ) → Bool
 differ [] = true
 differ (name ∷ names) = not (stands name names) && differ names
 
--- what stands first, or behind
+-- a name is the first, or one after it
 first_or : (name n : List ℕ) (names : List (List ℕ)) → (n ≡ name) ⊎ (stands name names ≡ true) → stands name (n ∷ names) ≡ true
 first_or name n names h = elim (pointwise ◌==◌ n name) as (λ b. pointwise ◌==◌ n name ≡ b → cond b true (stands name names) ≡ true) [
   | true ↦ λ e. refl

@@ -1,4 +1,4 @@
--- A text is refused by one message at most.
+-- A text is refused by at most one message.
 use Rattle.std.proofs.Common.{◌≡◌, inl, inr, ℕ, List, slice_get, Option, Some, sym, ap, ◌∙◌, subst}
 use Rattle.meta_types.specs.declared.fault.DefinitionError.{DefinitionError}
 use Rattle.meta_declared.specs.AllDeclared.{Declared, ShowsFirst}
@@ -56,7 +56,7 @@ wrong_one first path items lines m n h g =
     subst (λ (r : Reason). IsMessageOf path items lines g.place r m) same.1 at in
     message_one path items lines g.place g.reason m n own g.tells
 
--- a text reads as one list of items, which stand in the same lines
+-- a text reads as one list of items, with the same lines
 module _ (text : List ℕ) {is js : List Item} {ls ks : List ℕ} (a : AreReadOf text is ls) (b : AreReadOf text js ks) where
   same_items : IsReadExactly → is ≡ js
   same_items exactly = one_reading exactly text is js a.reads b.reads
@@ -70,7 +70,7 @@ undeclared_one exactly first path text m n h g =
     let own = subst (λ (ls : List ℕ). IsWrongMessage path g.items ls m) (same_lines text h.read g.read) at in
     wrong_one first path g.items g.lines m n own g.tells
 
--- ---- declarations that show a fault
+-- ---- declarations with a fault
 
 fault_one : (path : List ℕ) (items : List Item) (lines : List ℕ) (fault : DefinitionError) (m n : List ℕ)
     → IsFaultMessageOf path items lines fault m → IsFaultMessageOf path items lines fault n → m ≡ n

@@ -4,7 +4,7 @@ use Rattle.meta_file.specs.Over.{IsOption, AskOverFile, IsOver, path_of, asked_o
 use Rattle.meta_file.specs.declared.over.Over.{Over}
 use Rattle.meta_file.specs.declared.over.Over.TheVariants.{Shared, File}
 
--- the first word, the second, and those behind it
+-- the first word, the second, and those after it
 abbrev first : List (List ℕ) → List ℕ
 first [] = []
 first (word ∷ words) = word
@@ -41,7 +41,7 @@ no_check option is e =
     omega (arith, one, other)
 
 module _ (words : List (List ℕ)) where
-  -- words behind an option are no words of `check`
+  -- words after an option are no words of `check`
   option_never : (option path : List ℕ) (asked behind : List (List ℕ)) → IsOption option → words ≡ option ∷ (path ∷ asked)
       → words ≡ codes "check" ∷ behind → ⊥
   option_never option path asked behind is h g = no_check option is (ap first (sym h ∙ g))

@@ -1,4 +1,4 @@
--- What is written of tables in a version is one text.
+-- At most one text is written of tables in a version.
 use Rattle.std.proofs.Common.{◌≡◌, ℕ, Bool, true, false, List, refl, sym, ◌∙◌, subst}
 use Rattle.meta_declared.specs.AllDeclared.{Declared}
 use Rattle.meta_gen.specs.WholeTables.{WholeTables, AreWholeTablesOf}

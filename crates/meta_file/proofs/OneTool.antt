@@ -1,4 +1,4 @@
--- Words ask one thing at most.
+-- Words ask at most one thing.
 use Rattle.std.proofs.Common.{◌≡◌, ℕ, ◌*◌, ◌+◌, ◌==◌, if◌then◌else◌, List, [], ◌∷◌, length, codes, refl, sym, ap, ◌∙◌, arith}
 use Rattle.meta_query.specs.Command.{command_words, AreWordsOf}
 use Rattle.meta_query.specs.declared.command.Command.{Command}
@@ -82,7 +82,7 @@ first_digit (c ∷ cs) = c
 abbrev digit : List (List ℕ) → ℕ
 digit words = first_digit (third words)
 
--- the words of a version tell which it is
+-- the words of a version determine it
 same_version : (v w : Version) → digit (codes "tables" ∷ version_words v) ≡ digit (codes "tables" ∷ version_words w) → v ≡ w
 same_version One One e = refl
 same_version One Two e = let no : 49 ≡ 50 = e in absurd (omega arith)
@@ -94,7 +94,7 @@ same_version Three One e = let no : 51 ≡ 49 = e in absurd (omega arith)
 same_version Three Two e = let no : 51 ≡ 50 = e in absurd (omega arith)
 same_version Three Three e = refl
 
--- the words behind the first
+-- the words after the first
 abbrev behind_first : List (List ℕ) → List (List ℕ)
 behind_first [] = []
 behind_first (word ∷ words) = words

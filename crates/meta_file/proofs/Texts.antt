@@ -11,11 +11,11 @@ use Rattle.meta_items_declared.specs.AllItems.{Declares as DeclaresItems, IsFirs
 use Rattle.meta_items_declared.specs.declared.refused.Reason.{Reason}
 use Rattle.meta_file.specs.File.{Reads, Declares, AreReadOf, IsWrongMessage, IsRefusal}
 
--- what the law on the reader says: it reads a text as items exactly where they fit and its tokens are theirs
+-- the law on the reader: it reads a text as items exactly if they fit and its tokens are theirs
 abbrev pub IsReadExactly : Type 0
 IsReadExactly = (text : List ℕ) (items : List Item) → (items_in text ≡ Ok items) ↔ (AllFit items × (read_in text ≡ spelled_all items))
 
--- so the reader reads a text that reads as items as these
+-- the reader reads a text as the items that it reads as
 pub read_as : IsReadExactly → (text : List ℕ) (items : List Item) → Reads text items → items_in text ≡ Ok items
 read_as exactly text items h = (exactly text items).1 (h.fit, h.spelled)
 
@@ -24,7 +24,7 @@ pub one_reading : IsReadExactly → (text : List ℕ) (items others : List Item)
 one_reading exactly text items others h g =
     let same = sym (read_as exactly text items h) ∙ read_as exactly text others g in cc
 
--- what the laws on items say: they make one list of declarations at most, and none where one is wrong
+-- the laws on items: they make at most one list of declarations, and none if one is wrong
 abbrev pub DeclareOne : Type 0
 DeclareOne = (items : List Item) (d e : Declared) → DeclaresItems items d → DeclaresItems items e → d ≡ e
 
@@ -51,7 +51,7 @@ not_refused exactly declare_one right no_fault path text message d (inr (inr fau
     let is = declare_one faulty.items d faulty.declared (subst (λ (js : List Item). DeclaresItems js d) same h.declared) faulty.declares in
     no_fault faulty.declared faulty.fault (subst AreValid is valid) faulty.first
 
--- it is refused where it reads as items of which one is wrong
+-- a text is refused if it reads as items of which one is wrong
 pub is_undeclared : (path text : List ℕ) (items : List Item) (lines : List ℕ) → AreReadOf text items lines → (message : List ℕ)
     → IsWrongMessage path items lines message → IsRefusal path text message
 is_undeclared path text items lines read message tells =

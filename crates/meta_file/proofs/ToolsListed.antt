@@ -17,7 +17,7 @@ use Rattle.meta_file.specs.declared.tool.Lone.{Lone}
 use Rattle.meta_file.specs.declared.tool.Lone.TheVariants as lone
 use Rattle.meta_file.specs.declared.tool.Tool.TheVariants.{Run, TablesIn, Verify, Asm, Flags, Audit, Check, Describe}
 
--- the entries have one of this name, behind which no number stands, and none before it has the name
+-- the entries have one of this name, after which no number stands, and none before it has the name
 pub record HavePlainEntry (entries : List CommandForm) (name : List ℕ) : Type 0 where
   pub place : ℕ
   pub entry : CommandForm
@@ -54,13 +54,13 @@ all_listed entries commands lones words (Describe, h) = inl (taken entries (code
 begins : (entries : List CommandForm) (words : List (List ℕ)) → AreTaken entries words → BeginWithNameOf entries words
 begins entries words h = (h.are.named.place, h.are.command, h.are.behind, h.are.named.at, h.are.are)
 
--- words that are the name of an entry and what stands behind it begin so
+-- words that are the name of an entry and more begin with this name
 named : (entries : List CommandForm) (name : List ℕ) (entry : CommandForm) → IsNamed entries name entry → (words behind : List (List ℕ))
     → words ≡ name ∷ behind → BeginWithNameOf entries words
 named entries name entry it words behind e = (it.place, entry, behind, it.at, e ∙ ap (λ n. n ∷ behind) (sym it.name_is))
 
--- The entries begin all words that ask something: those that they list, and, where one is that of `asm` and one that of `tables`, those
--- with another word behind the name.
+-- The entries begin all words that ask something: those that they list, and, if one is that of `asm` and one that of `tables`, those with
+-- another word after the name.
 pub all_named : (entries : List CommandForm) (asm tables : CommandForm) → IsNamed entries (codes "asm") asm
     → IsNamed entries (codes "tables") tables
     → ((words : List (List ℕ)) → AskSomething words → AreTaken entries words ⊎ HaveWordBehind words)
@@ -87,7 +87,7 @@ lone_words lone.Audit words e = (Audit, e)
 lone_words lone.Check words e = (Check, e)
 lone_words lone.Describe words e = (Describe, e)
 
--- nothing stands behind a name without numbers
+-- nothing stands after a name without numbers
 alone : (entries : List CommandForm) (words : List (List ℕ)) (h : AreCommandWords entries words) (name : List ℕ)
     → h.command.name.now ≡ name → h.command.numbers.now ≡ [] → words ≡ name ∷ []
 alone entries words h name e none =

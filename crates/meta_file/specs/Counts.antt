@@ -1,4 +1,4 @@
--- How much of each kind there is, as `check` says it of declarations that show no fault.
+-- How much of each kind there is, as `check` says it of valid declarations.
 --     check_line ..          the line, by the numbers
 --     IsCheckLine d line     the line has the numbers of the declarations and of their tables
 use Rattle.std.specs.Prelude.{◌≡◌, ◌+◌, ℕ, List, [], ◌∷◌, ◌++◌, length, codes}
@@ -9,7 +9,7 @@ use Rattle.meta_setting_tables.specs.FoundSetting.{laid_entry_count}
 use Rattle.meta_declared.specs.AllDeclared.{Declared}
 use Rattle.meta_gen.specs.WholeTables.{WholeTables, AreWholeTablesOf}
 
--- how many settings and presets all of these groups have together, and the same of groups that are built
+-- how many settings and presets all of these groups have together, and the same for groups that are built
 abbrev pub entries_in : List GroupDeclaration → ℕ
 entries_in [] = 0
 entries_in (g ∷ gs) = entry_count g + entries_in gs
@@ -27,8 +27,8 @@ check_line instructions formats type_sets constraints entries =
     ++ (codes " type sets, " ++ (decimal constraints
     ++ (codes " constraints, " ++ (decimal entries ++ (codes " settings and presets" ++ 10 ∷ []))))))))))
 
--- the line, by the declarations and tables: their tables tell how many distinct type sets there are, and how long the one list of
--- operand constraints is
+-- the line, by the declarations and tables: the tables give how many distinct type sets there are, and how long the one list of operand
+-- constraints is
 abbrev pub line_of_counts : Declared → WholeTables → List ℕ
 line_of_counts d t =
     check_line (length d.set.instructions) (length d.set.formats) (length t.opcodes.type_sets) (length t.opcodes.operand_constraints)

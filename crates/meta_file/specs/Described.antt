@@ -1,22 +1,22 @@
 -- What `describe` writes of declarations.
---     undescribed_line       that no file describes them
+--     undescribed_line       the line that no file describes them
 --     IsUndescribed d out    it is that line, and the declarations aren't settings alone
---     described              the text of a file that declares the same, or, as a rejection, that line
+--     AreDescribed           the text of a file that declares the same, or, as a rejection, that line
 use Rattle.std.specs.Prelude.{◌≡◌, ℕ, Bool, true, false, List, [], ◌∷◌, ◌++◌, codes}
 use Rattle.meta_declared.specs.AllDeclared.{Declared}
 use Rattle.meta_items_described.specs.Described.{IsDescription, HoldSettingsAlone}
 use Rattle.meta_run.specs.Run.{Texts}
 
--- the line where the items that would be written declare something else
+-- the line if the items that would be written declare something else
 abbrev pub undescribed_line : List ℕ
 undescribed_line = codes "undescribed: no file of this form declares the same" ++ 10 ∷ []
 
--- it is the line, and the declarations aren't settings alone, whose comments are UTF-8
+-- the text is that line, and the declarations aren't settings alone, whose comments are UTF-8
 pub record IsUndescribed (d : Declared) (out : List ℕ) : Type 0 where
   pub line : out ≡ undescribed_line
   pub not_alone : HoldSettingsAlone d → ⊥
 
--- a text whose items declare what has the same tables and texts, or, as a rejection, that none was found
+-- a text whose items declare something with the same tables and texts, or, as a rejection, the line that there is none
 abbrev pub AreDescribed : Declared → Bool → List ℕ → Type 0
 AreDescribed d false out = IsDescription out d
 AreDescribed d true out = IsUndescribed d out

@@ -1,6 +1,6 @@
 -- What the text of a file declares, and why it is refused.
 --     Declares text d                     the text reads as items, and these make the declarations
---     IsRefusal path text message         the message tells the first thing that is wrong
+--     IsRefusal path text message         the message says what is wrong first
 use Rattle.std.specs.Prelude.{◌≡◌, ◌⊎◌, ℕ, List, Err, slice_get, Some}
 use Rattle.meta_types.specs.declared.fault.DefinitionError.{DefinitionError}
 use Rattle.meta_declared.specs.AllDeclared.{Declared, ShowsFirst}
@@ -19,7 +19,7 @@ use Rattle.meta_items_declared.specs.Places.{place_of_fault}
 use Rattle.meta_items_declared.specs.declared.refused.Reason.{Reason}
 use Rattle.meta_refusals.specs.Why.{declare_why, fault_why, located}
 
--- the text reads as these items: each of them fits, and the tokens of the text are those that spell them, one item behind the other
+-- the text reads as these items: each of them fits, and the tokens of the text are those that spell them, one item after the other
 pub record Reads (text : List ℕ) (items : List Item) : Type 0 where
   pub fit : AllFit items
   pub spelled : read_in text ≡ spelled_all items
@@ -30,14 +30,14 @@ pub record Declares (text : List ℕ) (d : Declared) : Type 0 where
   pub reads : Reads text items
   pub declared : DeclaresItems items d
 
--- the text reads as these items, each of which stands in its line: that of its keyword
+-- the text reads as these items, each of which has its line: that of its keyword
 pub record AreReadOf (text : List ℕ) (items : List Item) (lines : List ℕ) : Type 0 where
   pub reads : Reads text items
   pub standing : lines ≡ key_lines (read_in text) (read_lines text)
 
 -- ---- messages
 
--- the message tells what is wrong with the item at a place, in its line
+-- the message says what is wrong with the item at a place, with its line
 pub record IsMessageOf (path : List ℕ) (items : List Item) (lines : List ℕ) (place : ℕ) (reason : Reason) (message : List ℕ) : Type 0 where
   pub item : Item
   pub at : slice_get items place ≡ Some item
@@ -45,14 +45,14 @@ pub record IsMessageOf (path : List ℕ) (items : List Item) (lines : List ℕ) 
   pub stands : slice_get lines place ≡ Some line
   pub is : message ≡ located path line (declare_why lines item reason)
 
--- the message tells the first item that is wrong, and why
+-- the message says which item is the first that is wrong, and why
 pub record IsWrongMessage (path : List ℕ) (items : List Item) (lines : List ℕ) (message : List ℕ) : Type 0 where
   pub place : ℕ
   pub reason : Reason
   pub wrong : IsFirstWrong items place reason
   pub tells : IsMessageOf path items lines place reason message
 
--- the message tells the fault, in the line of the item that declares what it names
+-- the message says the fault, with the line of the item that declares what it names
 pub record IsFaultMessageOf (path : List ℕ) (items : List Item) (lines : List ℕ) (fault : DefinitionError) (message : List ℕ) : Type 0 where
   pub place : ℕ
   pub at : place_of_fault items fault ≡ Some place
@@ -62,7 +62,7 @@ pub record IsFaultMessageOf (path : List ℕ) (items : List Item) (lines : List 
 
 -- ---- why a text is refused
 
--- it reads as no items, but as a fault: the message tells where that shows, and why; the items before it are read, and none begins there
+-- the text reads as no items: the message says where it can't be read, and why; the items before that place are read, and none begins there
 pub record IsUnread (path text message : List ℕ) : Type 0 where
   pub refusal : Refusal
   pub fault : Fault
@@ -71,14 +71,14 @@ pub record IsUnread (path text message : List ℕ) : Type 0 where
   pub refused : IsRefused text refusal
   pub is : message ≡ located path refusal.line (reason_of refusal)
 
--- it reads as items, of which one is wrong: the message tells the first
+-- the text reads as items, of which one is wrong: the message says which is the first
 pub record IsUndeclared (path text message : List ℕ) : Type 0 where
   pub items : List Item
   pub lines : List ℕ
   pub read : AreReadOf text items lines
   pub tells : IsWrongMessage path items lines message
 
--- it makes declarations that show a fault: the message tells the first
+-- the text makes declarations with a fault: the message says the first
 pub record IsFaulty (path text message : List ℕ) : Type 0 where
   pub items : List Item
   pub lines : List ℕ
@@ -89,6 +89,6 @@ pub record IsFaulty (path text message : List ℕ) : Type 0 where
   pub first : ShowsFirst declared fault
   pub tells : IsFaultMessageOf path items lines fault message
 
--- why the text is refused, of these three
+-- why the text is refused, for one of these three reasons
 abbrev pub IsRefusal : List ℕ → List ℕ → List ℕ → Type 0
 IsRefusal path text message = IsUnread path text message ⊎ (IsUndeclared path text message ⊎ IsFaulty path text message)

@@ -15,14 +15,14 @@ use Rattle.meta_file.specs.declared.tool.Tool.{Tool}
 use Rattle.meta_file.specs.declared.file_ending.FileEnding.{FileEnding}
 use Rattle.meta_file.specs.declared.file_ending.FileEnding.TheVariants.{Ran, Refused, FileFault, FileTooLong}
 
--- the exit status of the process: that of the run; 1 where the file is refused, 6 where it is too long, 8 where it can't be read
+-- the exit status of the process: that of the run; 1 if the file is refused, 6 if it is too long, 8 if it can't be read
 abbrev pub file_code : FileEnding → ℕ
 file_code (Ran ending) = code_of ending
 file_code (Refused message) = code_of ends.Refused
 file_code FileFault = 8
 file_code FileTooLong = code_of ends.TooLong
 
--- a file, by what it tells, before and after a call: it told its text, which is within the limit, and no read of it failed
+-- a file before and after a call: contracts see its text, which is within the limit, and no read of it failed
 abbrev pub IsFileGiven : {F : Type 0} → (F → Option (List ℕ)) → (F → ℕ) → F → F → List ℕ → Type 0
 IsFileGiven file_left file_reads f f' text =
     (file_left f ≡ Some text) × (length text ≤ longest_input) × (Rose (file_reads f) (file_reads f') → ⊥)
@@ -31,11 +31,11 @@ IsFileGiven file_left file_reads f f' text =
 abbrev pub IsAsked : (Tool → Type 0) → Type 0
 IsAsked Means = (tool : Tool) × Means tool
 
--- which tools are asked, the path and a text; and a source and a sink, by what they tell, before and after a run over what the text
--- declares
+-- which tools are asked, the path and a text; and a source and a sink, by what contracts see of them, before and after a run over what the
+-- text declares
 module _ {S K : Type 0} (left : S → Option (List ℕ)) (reads : S → ℕ) (taken : K → Option (List ℕ)) (writes : K → ℕ)
     (Means : Tool → Type 0) (path text : List ℕ) (s s' : S) (k k' : K) where
-  -- the text declares what shows no fault, and a tool that is asked ran over that
+  -- the text makes valid declarations, and a tool that is asked ran over them
   pub record RanText (ending : Ending) : Type 0 where
     pub declared : Declared
     pub declares : Declares text declared
@@ -44,17 +44,17 @@ module _ {S K : Type 0} (left : S → Option (List ℕ)) (reads : S → ℕ) (ta
     pub asked : Means tool
     pub ran : RanOver left reads taken writes declared s s' k k' (reads_input tool) (texts_of tool) ending
 
-  -- what was read and written of a text
+  -- what was read and written for a text
   abbrev pub DidText : FileEnding → Type 0
   DidText (Ran ending) = RanText ending ⊎ ((ending ≡ ends.OutOfMemory) × (s' ≡ s) × (k' ≡ k))
   DidText (Refused message) = IsRefusal path text message × (s' ≡ s) × (k' ≡ k)
   DidText FileFault = ⊥
   DidText FileTooLong = ⊥
 
--- which tools are asked, and the path; and a file, a source and a sink, by what they tell, before and after a run
+-- which tools are asked, and the path; and a file, a source and a sink, by what contracts see of them, before and after a run
 module _ {F S K : Type 0} (file_left : F → Option (List ℕ)) (file_reads : F → ℕ) (left : S → Option (List ℕ)) (reads : S → ℕ)
     (taken : K → Option (List ℕ)) (writes : K → ℕ) (Means : Tool → Type 0) (path : List ℕ) (f f' : F) (s s' : S) (k k' : K) where
-  -- nothing was read beside the file, and nothing was written
+  -- nothing was read apart from the file, and nothing was written
   abbrev pub LeavesAll : Type 0
   LeavesAll = (s' ≡ s) × (k' ≡ k)
 
@@ -64,13 +64,13 @@ module _ {F S K : Type 0} (file_left : F → Option (List ℕ)) (file_reads : F 
     pub read : IsReadWhole file_left f f' text
     pub ran : RanText left reads taken writes Means path text s s' k k' ending
 
-  -- the file was read whole, and the message tells why it is refused
+  -- the file was read whole, and the message says why it is refused
   pub record IsRefusedFile (message : List ℕ) : Type 0 where
     pub text : List ℕ
     pub read : IsReadWhole file_left f f' text
     pub refusal : IsRefusal path text message
 
-  -- What was read and written. Where no tool is asked, not even the file was read.
+  -- What was read and written. If no tool is asked, not even the file was read.
   abbrev pub DidFile : FileEnding → Type 0
   DidFile (Ran ending) =
       RanFile ending
@@ -80,8 +80,8 @@ module _ {F S K : Type 0} (file_left : F → Option (List ℕ)) (file_reads : F 
   DidFile FileFault = IsAsked Means × Rose (file_reads f) (file_reads f') × LeavesAll
   DidFile FileTooLong = IsAsked Means × GaveMore longest_input (file_left f) (file_left f') × LeavesAll
 
-  -- Where the file declares what shows no fault, a tool is asked, memory didn't run out and nothing failed, the sink took
-  -- exactly a text that answers what is given over these declarations, and the ending says which.
+  -- If the file makes valid declarations, a tool is asked, memory didn't run out and nothing failed, the sink took exactly a text that
+  -- answers what is given over these declarations, and the ending says which.
   abbrev pub AnswersFile : FileEnding → Type 0
   AnswersFile ending =
       (text : List ℕ) (d : Declared) (tool : Tool) → IsFileGiven file_left file_reads f f' text → Declares text d → AreValid d → Means tool
@@ -90,27 +90,27 @@ module _ {F S K : Type 0} (file_left : F → Option (List ℕ)) (file_reads : F 
       → (is_rejection : Bool) × (out : List ℕ) × texts_of tool d input is_rejection out × (ending ≡ Ran (written_as is_rejection))
       × (taken k' ≡ Some (before ++ out))
 
-  -- Where the file declares nothing, or what shows a fault, a tool is asked, memory didn't run out and no read of the file
-  -- failed, it is refused, and the message tells the first thing that is wrong.
+  -- If the file makes no declarations, or some with a fault, a tool is asked, memory didn't run out and no read of the file failed, the
+  -- file is refused, and the message says what is wrong first.
   abbrev pub RefusesFile : FileEnding → Type 0
   RefusesFile ending =
       (text : List ℕ) → IsFileGiven file_left file_reads f f' text → IsAsked Means → ((d : Declared) → Declares text d → AreValid d → ⊥)
       → ending ≢ Ran ends.OutOfMemory
       → (message : List ℕ) × (ending ≡ Refused message) × IsRefusal path text message × LeavesAll
 
-  -- It is refused only there: what it declares, if it declares anything, shows a fault.
+  -- A file that makes valid declarations isn't refused.
   abbrev pub IsRefusedOnly : FileEnding → Type 0
   IsRefusedOnly ending =
       (message text : List ℕ) (d : Declared) → ending ≡ Refused message → IsFileGiven file_left file_reads f f' text → Declares text d → AreValid d → ⊥
 
-  -- Where the file told more bytes than the limit, a tool is asked, memory didn't run out and no read of the file failed, it is
+  -- If contracts see more bytes in the file than the limit, a tool is asked, memory didn't run out and no read of the file failed, it is
   -- too long, and nothing else was read or written.
   abbrev pub LeavesLongFile : FileEnding → Type 0
   LeavesLongFile ending =
       (text : List ℕ) → file_left f ≡ Some text → longest_input < length text → (Rose (file_reads f) (file_reads f') → ⊥)
       → IsAsked Means → ending ≢ Ran ends.OutOfMemory → (ending ≡ FileTooLong) × LeavesAll
 
-  -- where it ran over what the file declares, that was a run over these declarations, with all that is known of one
+  -- a run over what the file declares is a run over these declarations, with all that is known of one
   pub record RunsDeclared (ending : Ending) : Type 0 where
     pub text : List ℕ
     pub read : IsReadWhole file_left f f' text
@@ -124,18 +124,18 @@ module _ {F S K : Type 0} (file_left : F → Option (List ℕ)) (file_reads : F 
     -- What was read and written, by how it ended.
     pub did : DidFile ending
     pub runs : (how : Ending) → ending ≡ Ran how → how ≢ ends.Usage → how ≢ ends.OutOfMemory → RunsDeclared how
-    -- Over what a file declares without a fault the words are answered, and other files are refused, and only they.
+    -- If a file makes valid declarations, the words are answered over them. Other files are refused, and only they.
     pub answers : AnswersFile ending
     pub refuses : RefusesFile ending
     pub refused_only : IsRefusedOnly ending
-    -- A file is too long exactly where it has more than the limit. Where no fault of it is told, no read of it failed. Its count of faults
-    -- never falls.
+    -- A file is too long exactly if it has more than the limit. Unless the ending is a fault of the file, no read of it failed. Its count
+    -- of faults never falls.
     pub too_long : LeavesLongFile ending
     pub file_within : ending ≢ FileTooLong → GaveAtMost longest_input (file_left f) (file_left f')
     pub file_else_no_fault : ending ≢ FileFault → file_reads f' ≡ file_reads f
     pub file_counted : file_reads f ≤ file_reads f'
-    -- Where no fault of the source is told, no read of it failed.
+    -- Unless the ending is a fault of the source, no read of it failed.
     pub else_no_fault : ending ≢ Ran ends.ReadFault → reads s' ≡ reads s
-    -- Where no tool is asked, and only there, it is a usage error, whatever the file is.
+    -- If no tool is asked, and only then, it is a usage error, whatever the file is.
     pub usage : ending ≡ Ran ends.Usage → IsAsked Means → ⊥
     pub no_words : (IsAsked Means → ⊥) → ending ≡ Ran ends.Usage

@@ -1,6 +1,6 @@
 -- What words are asked over.
 --     IsOver words over          the words are asked over this
---     path_of over, asked_of over    the file that it names, if it does, and what is asked of its declarations
+--     path_of over, asked_of over    the file that it names, if it names one, and what is asked of its declarations
 use Rattle.std.specs.Prelude.{◌≡◌, ◌≢◌, ◌⊎◌, ℕ, List, [], ◌∷◌, codes, Option, Some, None}
 use Rattle.meta_file.specs.declared.over.Over.{Over}
 use Rattle.meta_file.specs.declared.over.Over.TheVariants.{Shared, File}
@@ -25,7 +25,7 @@ abbrev pub IsOver : List (List ℕ) → Over → Type 0
 IsOver words (File path asked) = AskOverFile words path.now asked.now
 IsOver words (Shared asked) = (asked.now ≡ words) × ((path : List ℕ) (others : List (List ℕ)) → AskOverFile words path others → ⊥)
 
--- the path of the file, where there is one, and what is asked
+-- the path of the file, if there is one, and what is asked
 abbrev pub path_of : Over → Option (List ℕ)
 path_of (File path asked) = Some path.now
 path_of (Shared asked) = None

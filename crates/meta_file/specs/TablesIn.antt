@@ -1,6 +1,6 @@
 -- The tables in a version of their text.
---     version_words v        what asks for the version
---     shown_in v             what is written for declarations: the text of their tables, or that they don't fit the version
+--     version_words v        the words that ask for the version
+--     AreShownIn, IsShownIn  what is written for tables, and for declarations: the text of the tables, or that they don't fit the version
 use Rattle.std.specs.Prelude.{◌≡◌, ℕ, Bool, true, false, List, [], ◌∷◌, ◌++◌, codes}
 use Rattle.meta_declared.specs.AllDeclared.{Declared}
 use Rattle.meta_gen.specs.WholeTables.{WholeTables, AreWholeTablesOf}
@@ -20,7 +20,7 @@ version_word Three = codes "3"
 abbrev pub version_words : Version → List (List ℕ)
 version_words version = codes "--version" ∷ (version_word version ∷ [])
 
--- what a version holds, beside which tables don't fit it; each fits version 3
+-- the limits of a version; tables beyond them don't fit it, and all tables fit version 3
 abbrev pub limits_of : Version → List ℕ
 limits_of One = codes "at most 255 opcodes and 255 type sets, and no second control"
 limits_of Two = codes "at most 255 opcodes and 255 type sets"
@@ -30,12 +30,12 @@ limits_of Three = codes "all tables"
 abbrev pub unfit_line : Version → List ℕ
 unfit_line version = codes "unfit: version " ++ (version_word version ++ (codes " holds " ++ (limits_of version ++ 10 ∷ [])))
 
--- the text of the tables where they fit the version, and else, as a rejection, that they don't
+-- the text of the tables if they fit the version, and else, as a rejection, that they don't
 abbrev pub AreShownIn : Version → WholeTables → Bool → List ℕ → Type 0
 AreShownIn version tables false out = Fits version tables × (out ≡ table_text version tables)
 AreShownIn version tables true out = (Fits version tables → ⊥) × (out ≡ unfit_line version)
 
--- that of the tables of the declarations
+-- the same for the tables of the declarations
 pub record IsShownIn (version : Version) (d : Declared) (is_rejection : Bool) (out : List ℕ) : Type 0 where
   pub tables : WholeTables
   pub are : AreWholeTablesOf d tables

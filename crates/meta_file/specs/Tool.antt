@@ -1,9 +1,9 @@
--- What one asks over declarations, and how.
+-- What can be asked over declarations, and how.
 --     AreToolWords tool words       the words ask this
 --     BeginWithNameOf commands words    the first word is the name of one of the commands
 --     IsToolList commands           their names are plain and differ, and each begins words that ask something
---     HaveWordBehind words          a word that is no number stands behind the name: a form of `asm`, or a version of the tables
---     texts_of tool                 what it is answered with
+--     HaveWordBehind words          a word that is no number comes after the name: a form of `asm`, or a version of the tables
+--     texts_of tool                 the texts that answer it
 use Rattle.std.specs.Prelude.{◌≡◌, ◌⊎◌, ℕ, Bool, true, false, List, [], ◌∷◌, codes, map, slice_get, Some}
 use Rattle.meta_types.specs.SharedNames.{AreDifferentNames}
 use Rattle.meta_main.specs.Usage.{ArePlainlyNamed}
@@ -33,7 +33,7 @@ lone_name lone.Audit = codes "audit"
 lone_name lone.Check = codes "check"
 lone_name lone.Describe = codes "describe"
 
--- the words ask this: those of a command of `run` are its own, those of `asm` are its name and a form, and `tables` may have a version
+-- the words ask this: a command of `run` has its own words, `asm` its name and a form, and `tables` may have a version
 abbrev pub AreToolWords : Tool → List (List ℕ) → Type 0
 AreToolWords (Run command) words = AreWordsOf command words
 AreToolWords (TablesIn version) words = words ≡ codes "tables" ∷ version_words version
@@ -60,7 +60,7 @@ pub record IsToolList (commands : List CommandForm) : Type 0 where
   pub only : (k : ℕ) (command : CommandForm) → slice_get commands k ≡ Some command
       → (behind : List (List ℕ)) × AskSomething (command.name.now ∷ behind)
 
--- a word that is no number stands behind the name: a form of `asm`, or a version of the tables
+-- a word that is no number comes after the name: a form of `asm`, or a version of the tables
 abbrev pub HaveWordBehind : List (List ℕ) → Type 0
 HaveWordBehind words = ((form : Form) × (words ≡ codes "asm" ∷ words_for form))
     ⊎ ((version : Version) × (words ≡ codes "tables" ∷ version_words version))
@@ -76,12 +76,12 @@ reads_input Audit = true
 reads_input Check = false
 reads_input Describe = false
 
--- of declarations that show no fault it is said how much of each kind there is
+-- for valid declarations the text says how much of each kind there is
 abbrev pub says_counts : Outputs
 says_counts d input output = IsCheckLine d output
 
--- the texts that answer an input over declarations: those of the programs of these names, of `check` the line that begins with `ok`, and of
--- `describe` a file that declares the same
+-- the texts that answer an input over declarations: those of the programs of these names, for `check` the line that begins with `ok`, and
+-- for `describe` a file that declares the same
 abbrev pub texts_of : Tool → Texts
 texts_of (Run command) = never_rejecting (query.IsOutputOf command)
 texts_of (TablesIn version) = shown_in version

@@ -16,7 +16,7 @@ struct Counts {
     entries: usize,
 }
 
-/// The sum, which is handled as want of memory where it is too great for a number of things in memory.
+/// The sum. If it is too great for a count of things in memory, the error is `AllocError`.
 fn sum(count: usize, more: usize) -> Result<usize, AllocError>
     ensures { IfOk result (λ n. n ≡ count + more) }
 {
@@ -36,7 +36,7 @@ fn entry_count(groups: &[SettingGroup]) -> Result<usize, AllocError>
 }
 
 impl Counts {
-    /// The line that says them.
+    /// The line with these numbers.
     #[tactic(auto, unfolding(crate::specs::Counts::check_line))]
     fn line(&self, alloc: Global) -> Result<String, AllocError>
         ensures { IfOk result (λ text. string_bytes text ≡ check_line self.now.instructions self.now.formats
@@ -73,7 +73,7 @@ fn counts_of(built: &Built<'_>, tables: &Tables) -> Result<Counts, AllocError>
     })
 }
 
-/// How much of each kind there is in what was built of declarations: what `check` says of it.
+/// How much of each kind there is in what was built of declarations, as `check` writes it.
 #[tactic(auto, using(crate::proofs::Counted::counted))]
 pub(crate) fn counted(alloc: Global, built: &Built<'_>) -> Result<String, AllocError>
     ensures { IfOk result (λ line. IsCheckLine built.now.declared (string_bytes line)) }

@@ -6,7 +6,7 @@ use meta_items_described::write_description;
 use meta_run::Answer;
 use std::alloc::{AllocError, Global};
 
-/// The line where no file of the form describes the declarations.
+/// The line that no file of the form describes the declarations.
 fn undescribed(alloc: Global) -> Result<String, AllocError>
     ensures { IfOk result (λ line. string_bytes line ≡ undescribed_line) }
 {
@@ -16,7 +16,7 @@ fn undescribed(alloc: Global) -> Result<String, AllocError>
     )
 }
 
-/// The declarations as the text of a file, and a rejection where there is none.
+/// The declarations as the text of a file, and a rejection if there is no such text.
 pub(crate) fn described(alloc: Global, built: &Built<'_>) -> Result<Answer, AllocError>
     ensures { IfOk result (λ answer. AreDescribed built.now.declared answer.is_rejection (string_bytes answer.text)) }
 {

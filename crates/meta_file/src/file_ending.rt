@@ -4,12 +4,12 @@ ghost use Rattle.meta_file.specs.FileRun.{file_code};
 use meta_run::Ending;
 use meta_tokens::Bytes;
 
-/// How a run over the declarations of a file ended (this project's own).
+/// How a run over the declarations of a file ended.
 #[derive(Drop)]
 pub enum FileEnding {
-    /// The words ask nothing, or memory ran out, or the file declares what shows no fault, and the run over that ended so.
+    /// The words ask nothing, or memory ran out, or the file makes valid declarations and the run over them ended so.
     Ran(Ending),
-    /// The file is refused, and why: `PATH:LINE: WHY`, without a line feed.
+    /// The file is refused. The message says why: `PATH:LINE: WHY`, without a line feed.
     Refused(Bytes),
     /// The file can't be read.
     FileFault,
@@ -18,8 +18,7 @@ pub enum FileEnding {
 }
 
 impl FileEnding {
-    /// The exit status of the process: that of `Ending::code`; 1 where the file is refused, 6 where it is too long, and 8 where it can't
-    /// be read.
+    /// The exit status of the process: that of `Ending::code`; 1 if the file is refused, 6 if it is too long, and 8 if it can't be read.
     pub fn code(&self) -> u8
         ensures { result ≡ file_code self.now }
     {

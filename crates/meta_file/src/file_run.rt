@@ -58,10 +58,10 @@ fn run_read<F: Source, S: Source, K: Sink>(
     }
 }
 
-/// Runs a tool over the declarations that a file makes (this project's own). The path stands in messages alone.
+/// Runs a tool over the declarations that a file makes. The path is for messages alone.
 ///
-/// The order is: the whole file; what it reads as and declares, which is refused by the first thing that is wrong, in the order of
-/// `load`; then the run of the tool. `OutOfMemory` may come in any case.
+/// The order is: the whole file; its items and declarations, which are refused by what is wrong first, in the order of `load`; then the run
+/// of the tool. `OutOfMemory` may come in any case.
 pub fn run_tool<F: Source, S: Source, K: Sink>(
     alloc: Global,
     tool: Tool,
@@ -70,7 +70,7 @@ pub fn run_tool<F: Source, S: Source, K: Sink>(
     source: &mut S,
     sink: &mut K,
 ) -> FileEnding
-    // What was read and written, by how it ended, and what is done where nothing fails: each field is a fact of the call.
+    // What was read and written, by how the run ended, and what is done where nothing fails. Each field is a fact of the call.
     ensures runs { RunsFile F.left F.faults S.left S.faults K.taken K.faults (λ asked. asked ≡ tool) path.now file.old file.new
         source.old source.new sink.old sink.new result }
 {
@@ -79,7 +79,7 @@ pub fn run_tool<F: Source, S: Source, K: Sink>(
     run_read(alloc, tool, path, file, source, sink)
 }
 
-/// Reads the file, where the words ask something, and runs that over what it declares.
+/// Reads the file if the words ask something, and runs that over what it declares.
 fn attempt<F: Source, S: Source, K: Sink>(
     alloc: Global,
     words: &[Text],
@@ -100,7 +100,7 @@ fn attempt<F: Source, S: Source, K: Sink>(
     }
 }
 
-/// Runs what the words ask over the declarations that a file makes (this project's own). The path stands in messages alone.
+/// Runs what the words ask over the declarations that a file makes. The path is for messages alone.
 ///
 /// The order is: the words; then that of `run_tool`. `OutOfMemory` may come in any case but `Usage`.
 pub fn run_file<F: Source, S: Source, K: Sink>(
@@ -111,11 +111,11 @@ pub fn run_file<F: Source, S: Source, K: Sink>(
     source: &mut S,
     sink: &mut K,
 ) -> FileEnding
-    // Over what a file declares without a fault the words are answered.
+    // If a file makes valid declarations, the words are answered over them.
     ensures headline { AnswersFile F.left F.faults S.left S.faults K.taken K.faults (λ tool. AreToolWords tool words.now) path.now
         file.old file.new source.old source.new sink.old sink.new result }
 
-    // What was read and written, by how it ended, and what is done where nothing fails: each field is a fact of the call.
+    // What was read and written, by how the run ended, and what is done where nothing fails. Each field is a fact of the call.
     ensures runs { RunsFile F.left F.faults S.left S.faults K.taken K.faults (λ tool. AreToolWords tool words.now) path.now
         file.old file.new source.old source.new sink.old sink.new result }
 {

@@ -17,7 +17,7 @@ use meta_items_declared::{items_say_one_thing, one_declaration};
 use meta_items_reader::what_is_read;
 use meta_query::one_command;
 
-/// Words ask one thing at most.
+/// Words ask at most one thing.
 pub fn one_tool()
     ensures { (t u : spec_Tool) (words : List (List ℕ)) → AreToolWords t words → AreToolWords u words → t ≡ u }
 {
@@ -25,7 +25,7 @@ pub fn one_tool()
     one_form();
 }
 
-/// A text makes one list of declarations at most, and none that show no fault where it is refused. It is refused by one message.
+/// A text makes at most one list of declarations, and no valid ones if it is refused. It is refused by one message.
 pub fn a_text_declares_one_thing()
     ensures same { (text : List ℕ) (d e : Declared) → Declares text d → Declares text e → d ≡ e }
     ensures refused { (path text message : List ℕ) (d : Declared) → IsRefusal path text message → Declares text d → AreValid d → ⊥ }
@@ -37,15 +37,15 @@ pub fn a_text_declares_one_thing()
     one_first_fault();
 }
 
-/// What `check` says of declarations is one line. The variables have sets of types, as those of `Declarations` always do.
+/// `check` writes at most one line for declarations. The type variables must have type sets, as those of `Declarations` always do.
 pub fn one_check_line()
     ensures { (d : Declared) (line other : List ℕ) → HoldTypeSets d.set.vars → IsCheckLine d line → IsCheckLine d other → line ≡ other }
 {
     one_table_of_declarations();
 }
 
-/// What `tables --version N` writes of declarations is one text, and it is an answer or a rejection, never both. The variables have sets of
-/// types, as those of `Declarations` always do.
+/// `tables --version N` writes at most one text for declarations, and it is an answer or a rejection, never both. The type variables must
+/// have type sets, as those of `Declarations` always do.
 pub fn one_text_of_a_version()
     ensures rejection { (version : Version) (d : Declared) (a b : Bool) (out other : List ℕ) → HoldTypeSets d.set.vars
         → IsShownIn version d a out → IsShownIn version d b other → a ≡ b }
@@ -55,7 +55,7 @@ pub fn one_text_of_a_version()
     one_table_of_declarations();
 }
 
-/// Words are asked over one thing: over one file or over the shared declarations, and they ask one thing of that.
+/// Words are asked over one thing: over one file or over the shared declarations. They ask one thing of it.
 pub fn one_over()
     ensures path { (words : List (List ℕ)) (a b : spec_Over) → IsOver words a → IsOver words b → path_of a ≡ path_of b }
     ensures asked { (words : List (List ℕ)) (a b : spec_Over) → IsOver words a → IsOver words b → asked_of a ≡ asked_of b }

@@ -1,7 +1,7 @@
-//! The commands of all programs over one set of declarations, and over those that a file declares.
+//! The commands of all programs over one set of declarations, and over those that a file makes.
 //!
-//! `Tool::parse` says which command words are, and `run_words` runs it over declarations. `run_file` reads a file of declarations
-//! first, and says in which line it is wrong, if it is.
+//! `Tool::parse` says which command the words are, and `run_words` runs it over declarations. `run_file` reads a file of declarations
+//! first, and if the file is wrong, says in which line.
 #![tactic(auto)]
 
 mod checking;

@@ -16,12 +16,12 @@ use meta_tokens::Bytes;
 use meta_types::DefinitionError;
 use std::alloc::{AllocError, Global};
 
-/// Why a text isn't declarations without a fault (this project's own).
+/// Why a text doesn't make valid declarations.
 #[derive(Drop)]
 pub enum LoadError {
     /// Memory ran out.
     Memory,
-    /// The text is refused, and why: `PATH:LINE: WHY`, without a line feed.
+    /// The text is refused. The message says why: `PATH:LINE: WHY`, without a line feed.
     Refused(Bytes),
 }
 
@@ -33,7 +33,7 @@ impl From<AllocError> for LoadError {
     }
 }
 
-/// The message where the text reads as no items.
+/// The message if the text reads as no items.
 fn unread(alloc: Global, path: &[u8], refusal: &Refusal) -> Result<Bytes, AllocError>
     ensures { IfOk result (λ message. message ≡ located path.now refusal.now.line (reason_of refusal.now)) }
 {
@@ -41,7 +41,7 @@ fn unread(alloc: Global, path: &[u8], refusal: &Refusal) -> Result<Bytes, AllocE
     located(alloc, path, refusal.line, &why)
 }
 
-/// The message where the item at a place declares nothing. Each item has a line; where there is none, that is handled as want of memory.
+/// The message if the item at a place declares nothing. Each item has a line; if it were missing, the error would be `AllocError`.
 fn undeclared(
     alloc: Global,
     path: &[u8],
@@ -58,8 +58,8 @@ fn undeclared(
     located(alloc, path, *line, &why)
 }
 
-/// The message where the declarations show a fault. An item declares what the fault names; where there is none, that is handled as want
-/// of memory.
+/// The message if the declarations have a fault. An item declares what the fault names; if it were missing, the error would be
+/// `AllocError`.
 fn faulty(
     alloc: Global,
     path: &[u8],
@@ -109,14 +109,14 @@ fn declared_by(alloc: Global, path: &[u8], items: &ReadItems) -> Result<Declarat
     }
 }
 
-/// Whether the fault is none of the declarations.
+/// Whether the fault says that memory ran out, and is no fault of the declarations.
 fn is_out_of_memory(fault: &DefinitionError) -> bool
     ensures { IsTrue result ↔ (fault.now ≡ DefinitionError.OutOfMemory) }
 {
     matches!(fault, DefinitionError::OutOfMemory)
 }
 
-/// Why the declarations are refused, if they show a fault.
+/// Why the declarations are refused, if they have a fault.
 fn fault_in(
     alloc: Global,
     declarations: &Declarations,
@@ -135,7 +135,7 @@ fn fault_in(
     }
 }
 
-/// The declarations of a text, which show no fault.
+/// The declarations of a text, which are valid.
 fn loaded(alloc: Global, path: &[u8], text: &[u8]) -> Result<Declarations, LoadError>
     ensures declared { IfOk result (Declares text.now) }
     ensures valid { IfOk result AreValid }
@@ -152,16 +152,16 @@ fn loaded(alloc: Global, path: &[u8], text: &[u8]) -> Result<Declarations, LoadE
     }
 }
 
-/// The declarations of a text, which show no fault (this project's own). The text is refused exactly where it reads as no items, or an item
-/// declares nothing, or the declarations show a fault: by the first such thing, with its line. The path stands before the line in
-/// the message. `Memory` may come in any case.
+/// Makes the declarations of a text. They are valid. The text is refused exactly if it reads as no items, or an item declares nothing, or
+/// the declarations have a fault. The message says which of these comes first, with its line. The path stands before the line in the
+/// message. `Memory` may come in any case.
 pub fn load(alloc: Global, path: &[u8], text: &[u8]) -> Result<Declarations, LoadError>
     // The declarations that the text makes.
     ensures declared { IfOk result (Declares text.now) }
     ensures valid { IfOk result AreValid }
-    // The message tells the first thing that is wrong, in its line.
+    // The message says what is wrong first, with its line.
     ensures refused { (message : List ℕ) → result ≡ Err (errors.Refused message) → IsRefusal path.now text.now message }
-    // What declares something that shows no fault isn't refused.
+    // A text that makes valid declarations isn't refused.
     ensures only { (d : Declared) (message : List ℕ) → Declares text.now d → AreValid d → ¬ (result ≡ Err (errors.Refused message)) }
 {
     a_text_declares_one_thing();

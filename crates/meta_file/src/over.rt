@@ -3,12 +3,12 @@ ghost use Rattle.meta_file.specs.Over.{IsOption, IsOver, rust_word};
 
 use meta_types::Text;
 
-/// What words are asked over (this project's own).
+/// What words are asked over.
 #[derive(Clone, Copy)]
 pub enum Over<'w> {
-    /// The shared declarations: what is asked of them.
+    /// The shared declarations, and what is asked of them.
     Shared(&'w [Text]),
-    /// Those of a file: its path, and what is asked of them.
+    /// The declarations of a file: its path, and what is asked of them.
     File(&'w Text, &'w [Text]),
 }
 
@@ -34,8 +34,8 @@ pub fn is_rust(word: &Text) -> bool
 }
 
 impl<'w> Over<'w> {
-    /// Behind `-d FILE` or `--declarations FILE` words are asked over the declarations of the file; `check FILE` asks `check` over
-    /// them, and `check --rust FILE` asks `check --rust`. All other words are asked over the shared declarations.
+    /// What the words are asked over. After `-d FILE` or `--declarations FILE`, words are asked over the declarations of the file. `check
+    /// FILE` asks `check` over them, and `check --rust FILE` asks `check --rust`. All other words are asked over the shared declarations.
     pub fn of(words: &'w [Text]) -> Over<'w>
         ensures { IsOver words.now result }
     {
@@ -46,7 +46,7 @@ impl<'w> Over<'w> {
         }
     }
 
-    /// The same, where there are two words and more.
+    /// The same, if there are at least two words.
     fn of_two(words: &'w [Text], first: &'w Text, path: &'w Text, rest: &'w [Text]) -> Over<'w>
         requires { words.now ≡ first.now ∷ (path.now ∷ rest.now) }
         ensures { IsOver words.now result }
@@ -60,7 +60,7 @@ impl<'w> Over<'w> {
         Over::Shared(words)
     }
 
-    /// The same, where the first of two words and more is `check`.
+    /// The same, if there are at least two words and the first is `check`.
     fn of_check(words: &'w [Text], second: &'w Text, rest: &'w [Text]) -> Over<'w>
         requires { words.now ≡ codes "check" ∷ (second.now ∷ rest.now) }
         ensures { IsOver words.now result }

@@ -30,7 +30,6 @@ impl Answerer for Tool {
         }
     }
 
-    /// What the tool answers.
     fn answer(&self, alloc: Global, built: &Built<'_>, input: &[u8]) -> Result<Answer, AllocError> {
         match self {
             Tool::Run(command) => command.answer(alloc, built, input),
@@ -48,7 +47,7 @@ impl Answerer for Tool {
     }
 }
 
-/// Says how much of each kind there is, where the declarations show no fault, as `run_words` does for `check`.
+/// Says how much of each kind there is in declarations, as `run_words` does for `check`. Declarations with a fault are refused.
 pub fn run_check<S: Source, K: Sink>(
     alloc: Global,
     declarations: &Declarations,
@@ -61,7 +60,6 @@ pub fn run_check<S: Source, K: Sink>(
     run_answerer(alloc, &Tool::Check, declarations, source, sink)
 }
 
-/// Runs what the words ask.
 fn attempt<S: Source, K: Sink>(
     alloc: Global,
     words: &[Text],
@@ -78,12 +76,12 @@ fn attempt<S: Source, K: Sink>(
     }
 }
 
-/// Runs what the words ask over declarations (this project's own). `verify`, `asm`, `flags` and `audit` answer as the calls of these names
-/// do for the words behind them, `check` says how much of each kind is declared, `describe` writes a file that declares the same, and all
-/// other words are those of `run`.
+/// Runs what the words ask over declarations. `verify`, `asm`, `flags` and `audit` answer as the calls of these names do for the words
+/// after them. `check` says how much of each kind is declared, and `describe` writes a file that declares the same. All other words are
+/// those of `run`.
 ///
-/// The order is: the words; the declarations, which are refused by the first fault that they show; the whole input, where there is
-/// one; all that is answered, in memory; the writes. `OutOfMemory` may come in any case but `Usage`.
+/// The order is: the words; the declarations, which are refused by their first fault if they have one; the whole input, if there is one;
+/// the whole answer, in memory; the writes. `OutOfMemory` may come in any case but `Usage`.
 pub fn run_words<S: Source, K: Sink>(
     alloc: Global,
     words: &[Text],
@@ -91,7 +89,7 @@ pub fn run_words<S: Source, K: Sink>(
     source: &mut S,
     sink: &mut K,
 ) -> Ending
-    // What was read and written, by how it ended, and what is done where nothing fails: each field is a fact of the call.
+    // What was read and written, by how the run ended, and what is done where nothing fails. Each field is a fact of the call.
     ensures runs { Runs S.left S.faults K.taken K.faults declarations.now source.old source.new sink.old sink.new
         (λ tool. AreToolWords tool words.now) reads_input texts_of result }
 {

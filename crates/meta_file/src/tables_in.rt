@@ -9,7 +9,6 @@ use meta_table_text::{Version, fits, table_text};
 use meta_types::Text;
 use std::alloc::{AllocError, Global};
 
-/// The version of this number.
 fn version_named(number: &[u8]) -> Option<Version>
     ensures some { IfSome result (λ v. number.now ≡ version_word v) }
     ensures none { IfNone result ((v : spec_version.Version) → number.now ≢ version_word v) }
@@ -67,7 +66,6 @@ fn word_of(version: Version) -> &'static str
     }
 }
 
-/// What a version holds.
 fn limits_of(version: Version) -> &'static str
     ensures { result.now ≡ limits_of version }
 {
@@ -86,7 +84,7 @@ fn unfit(alloc: Global, version: Version) -> Result<String, AllocError>
     format!(in alloc; "unfit: version {number} holds {limits}\n")
 }
 
-/// The text of the tables in the version where they fit it, and else, as a rejection, that they don't.
+/// The text of the tables in the version if they fit it, and else, as a rejection, that they don't.
 fn shown(alloc: Global, version: Version, tables: &Tables) -> Result<Answer, AllocError>
     ensures { IfOk result (λ answer. AreShownIn version tables.now answer.is_rejection (string_bytes answer.text)) }
 {
@@ -102,7 +100,7 @@ fn shown(alloc: Global, version: Version, tables: &Tables) -> Result<Answer, All
     })
 }
 
-/// The same of the tables of what was built of declarations.
+/// The same for the tables of what was built of declarations.
 pub(crate) fn shown_in(
     alloc: Global,
     version: Version,

@@ -11,22 +11,22 @@ use meta_query::Command;
 use meta_table_text::Version;
 use meta_types::Text;
 
-/// What one asks over declarations (this project's own).
+/// What can be asked over declarations.
 #[derive(Clone, Copy)]
 pub enum Tool {
     /// A command of `run`.
     Run(Command),
-    /// `tables --version N`: the text of the tables in a version, where they fit it.
+    /// `tables --version N`: the text of the tables in a version, if they fit it.
     TablesIn(Version),
     /// `verify`: to check a list of typed lines.
     Verify,
-    /// `asm short` and `asm explicit`: to write such a list with types left out, and back.
+    /// `asm short` and `asm explicit`: to write such a list without types that follow from others, and back.
     Asm(Form),
-    /// `flags`: to serve the settings by name.
+    /// `flags`: to set and get settings by name.
     Flags,
     /// `audit`: to say whether tables mean what is declared.
     Audit,
-    /// `check`: that the declarations show no fault, and how much of each kind there is.
+    /// `check`: whether the declarations are valid, and how much of each kind there is.
     Check,
     /// `describe`: the declarations as the text of a file.
     Describe,
@@ -42,7 +42,6 @@ enum Lone {
     Describe,
 }
 
-/// The tool of this name.
 fn lone_named(name: &[u8]) -> Option<Lone>
     ensures some { IfSome result (λ l. name.now ≡ lone_name l) }
     ensures none { IfNone result ((l : spec_lone.Lone) → name.now ≢ lone_name l) }
@@ -83,7 +82,7 @@ pub fn is_asm(word: &Text) -> bool
     word.as_bytes() == b"asm".as_slice()
 }
 
-/// The form that the words ask for, where there is a word and what stands behind it.
+/// The form that the words ask for, from the first word and those after it.
 fn asm_form_of(words: &[Text], name: &Text, behind: &[Text]) -> Option<Form>
     requires { words.now ≡ name.now ∷ behind.now }
     ensures some { IfSome result (λ form. words.now ≡ codes "asm" ∷ words_for form) }
@@ -106,7 +105,6 @@ fn asm_form(words: &[Text]) -> Option<Form>
     }
 }
 
-/// The tool that it is.
 fn tool_of(lone: Lone) -> Tool
     ensures { AreToolWords result (lone_name lone ∷ []) }
 {
@@ -120,7 +118,7 @@ fn tool_of(lone: Lone) -> Tool
 }
 
 impl Tool {
-    /// What the words ask, and `None` exactly where they ask nothing.
+    /// What the words ask. It is `None` exactly if they ask nothing.
     #[tactic(auto, using(crate::proofs::OneTool::asks_none))]
     pub fn parse(words: &[Text]) -> Option<Tool>
         ensures some { IfSome result (λ tool. AreToolWords tool words.now) }

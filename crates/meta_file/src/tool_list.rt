@@ -4,7 +4,7 @@ ghost use Rattle.meta_file.specs.Tool.{AskSomething, BeginWithNameOf, IsToolList
 
 use meta_main::{CommandForm, Range};
 
-/// The commands of `run_words`, each with the numbers that stand behind its name, for the manual of a program (this project's own).
+/// The commands of `run_words`, each with the numbers that come after its name, for the manual of a program.
 pub const COMMANDS: &[CommandForm] = &[
     CommandForm {
         name: "tables",
@@ -67,11 +67,12 @@ pub const COMMANDS: &[CommandForm] = &[
     },
 ];
 
-/// `COMMANDS`. Words ask something exactly where it lists them, but for the word behind `asm` and the version behind `tables`, which are
-/// no numbers: so a usage error names each command and no other.
+/// Gives `COMMANDS`. Words ask something exactly if they are listed, with two exceptions, since a form and a version are no numbers: `asm`
+/// is listed alone, and asks something only with a form after it, and `tables` may have a version after it. So a usage error names each
+/// command, and nothing else.
 pub fn listed_tools() -> &'static [CommandForm]
     ensures listed { (words : List (List ℕ)) → AskSomething words → AreTaken result.now words ⊎ HaveWordBehind words }
-    // Also these begin with a name of the list.
+    // All words that ask something begin with a name of the list.
     ensures named { (words : List (List ℕ)) → AskSomething words → BeginWithNameOf result.now words }
     ensures commands { (words : List (List ℕ)) → AreCommandWords result.now words → AskSomething words ⊎ (words ≡ codes "asm" ∷ []) }
     ensures rows { IsToolList result.now }

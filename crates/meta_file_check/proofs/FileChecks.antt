@@ -1,4 +1,4 @@
--- From how a check of a file ended to what it did.
+-- What a check of a file did, by how it ended.
 use Rattle.std.proofs.Common.{◌≡◌, ◌≢◌, inl, inr, ℕ, List, [], ◌++◌, Option, Some, refl, subst}
 use Rattle.std.specs.Prelude.{◌⊎◌, ⊤, false}
 use Rattle.std.specs.Global.{Vec}
@@ -21,7 +21,7 @@ use Rattle.meta_file_check.specs.declared.asked.Names.TheVariants.{Warn, Refuse}
 use Rattle.meta_file_check.specs.declared.check_ending.CheckEnding.{CheckEnding}
 use Rattle.meta_file_check.specs.declared.check_ending.CheckEnding.TheVariants.{Ran, NamesRefused, Refused, FileFault, FileTooLong}
 
--- names are warned of, or there are none, where none are refused
+-- if no names are refused, they are warned of, or there are none
 passed : (names : Names) (messages : List (List ℕ)) → (names ≡ Refuse → messages ≡ []) → (names ≡ Warn) ⊎ (messages ≡ [])
 passed Warn messages none = inl refl
 passed Refuse messages none = inr (none refl)
@@ -34,7 +34,7 @@ module _ {F S K : Type 0} (file_left : F → Option (List ℕ)) (file_reads : F 
   abbrev Did : CheckEnding → Type 0
   Did ending = DidCheck file_left file_reads left reads taken writes path names f f' s s' k k' ending
 
-  -- what it declares is what was declared
+  -- the declarations of the file are those that were declared
   same_declared : (text bytes : List ℕ) (d e : Declared) → bytes ≡ text → Declares bytes e → Declares text d → e ≡ d
   same_declared text bytes d e texts h g = one_declared text e d (subst (λ (t : List ℕ). Declares t e) texts h) g
 
@@ -121,7 +121,7 @@ module _ {F S K : Type 0} (file_left : F → Option (List ℕ)) (file_reads : F 
   refuses FileFault did text given none memory = absurd (given.2 did.0)
   refuses FileTooLong did text given none memory = absurd (gave_within text (file_left f) (file_left f') given.0 given.1 did.0)
 
-  -- only what declares nothing, or what shows a fault, is refused
+  -- only a file that declares nothing, or whose declarations have a fault, is refused
   pub refused_only : (ending : CheckEnding) → Did ending
       → answers.IsRefusedOnly file_left file_reads left reads taken writes path names f f' s s' k k' ending
   refused_only ending did message text d is told declares valid = by (subst (λ (e : CheckEnding). Did e) is did)

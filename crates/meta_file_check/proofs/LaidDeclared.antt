@@ -20,7 +20,7 @@ use Rattle.meta_file_check.specs.Places.{setting_behind, place_in_group}
 use Rattle.meta_file_check.specs.NamedItems.{DeclaresLaid}
 use Rattle.meta_file_check.proofs.LaidItems.{IsLaidItem, laid_item}
 
--- up to an item behind another one
+-- up to an item after another one
 parts : (items : List Item) (k j : ℕ) (x : Item) → slice_get items k ≡ Some x
     → take (k + 1 + j) items ≡ take k items ++ x ∷ take j (drop (k + 1) items)
 parts items k j x at =

@@ -1,4 +1,4 @@
--- What is asked of the names that Rust refuses.
+-- What words ask of the names that Rust refuses.
 use Rattle.std.specs.Prelude.{ℕ, List, [], ◌∷◌, codes}
 use Rattle.meta_file.specs.Over.{rust_word}
 use Rattle.meta_file_check.specs.declared.asked.Names.{Names}

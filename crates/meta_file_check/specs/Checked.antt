@@ -1,5 +1,5 @@
 -- What a check of a file does.
---     DidCheck .. ending      what was read and written, and what is told, by how it ended
+--     DidCheck .. ending      what was read and written, and which messages there are, by how it ended
 use Rattle.std.specs.Prelude.{◌≡◌, ◌≢◌, ◌⊎◌, ℕ, List, [], Option, false}
 use Rattle.meta_text.specs.Outside.{Rose, longest_input, GaveMore}
 use Rattle.meta_declared.specs.AllDeclared.{Declared, AreValid}
@@ -15,8 +15,7 @@ use Rattle.meta_file_check.specs.declared.asked.Names.TheVariants.{Refuse}
 use Rattle.meta_file_check.specs.declared.check_ending.CheckEnding.{CheckEnding}
 use Rattle.meta_file_check.specs.declared.check_ending.CheckEnding.TheVariants.{Ran, NamesRefused, Refused, FileFault, FileTooLong}
 
--- the exit status of the process: that of the run; 1 where the file or its names are refused, 6 where it is too long, 8 where it can't
--- be read
+-- the exit status of the process: that of the run; 1 if the file or its names are refused, 6 if it is too long, 8 if it can't be read
 abbrev pub check_code : CheckEnding → ℕ
 check_code (Ran ending messages) = code_of ending
 check_code (NamesRefused messages) = code_of ends.Refused
@@ -24,7 +23,7 @@ check_code (Refused message) = code_of ends.Refused
 check_code FileFault = 8
 check_code FileTooLong = code_of ends.TooLong
 
--- memory ran out, and nothing is told
+-- memory ran out, and there are no messages
 abbrev pub IsOutOfMemory : CheckEnding → Type 0
 IsOutOfMemory (Ran ending messages) = (ending ≡ ends.OutOfMemory) × (messages.items ≡ [])
 IsOutOfMemory (NamesRefused messages) = ⊥
@@ -32,15 +31,15 @@ IsOutOfMemory (Refused message) = ⊥
 IsOutOfMemory FileFault = ⊥
 IsOutOfMemory FileTooLong = ⊥
 
--- the path, what is asked of names and a text; and a source and a sink, by what they tell, before and after a check of the text
+-- the path, what is asked of names and a text; and a source and a sink, by what contracts see of them, before and after a check of the text
 module _ {S K : Type 0} (left : S → Option (List ℕ)) (reads : S → ℕ) (taken : K → Option (List ℕ)) (writes : K → ℕ)
     (path : List ℕ) (names : Names) (text : List ℕ) (s s' : S) (k k' : K) where
-  -- nothing was read beside the file, and nothing was written
+  -- nothing was read apart from the file, and nothing was written
   abbrev pub LeavesAll : Type 0
   LeavesAll = (s' ≡ s) × (k' ≡ k)
 
-  -- the text declares what shows no fault, these are the messages of its names, of which there are none where they are refused, and what
-  -- is declared was counted
+  -- the text makes valid declarations, these are the messages of its names, of which there are none if names are refused, and what is
+  -- declared was counted
   pub record IsChecked (ending : Ending) (messages : List (List ℕ)) : Type 0 where
     pub declared : Declared
     pub declares : Declares text declared
@@ -49,7 +48,7 @@ module _ {S K : Type 0} (left : S → Option (List ℕ)) (reads : S → ℕ) (ta
     pub none : names ≡ Refuse → messages ≡ []
     pub ran : RanOver left reads taken writes declared s s' k k' false (never_rejecting says_counts) ending
 
-  -- the text declares what shows no fault, and has names, of which these are the messages
+  -- the text makes valid declarations, and has names, of which these are the messages
   pub record HasNames (messages : List (List ℕ)) : Type 0 where
     pub declared : Declared
     pub declares : Declares text declared
@@ -65,7 +64,7 @@ module _ {S K : Type 0} (left : S → Option (List ℕ)) (reads : S → ℕ) (ta
   DidCheckText FileFault = ⊥
   DidCheckText FileTooLong = ⊥
 
--- the path and what is asked of names; and a file, a source and a sink, by what they tell, before and after a check of the file
+-- the path and what is asked of names; and a file, a source and a sink, by what contracts see of them, before and after a check of the file
 module _ {F S K : Type 0} (file_left : F → Option (List ℕ)) (file_reads : F → ℕ) (left : S → Option (List ℕ)) (reads : S → ℕ)
     (taken : K → Option (List ℕ)) (writes : K → ℕ) (path : List ℕ) (names : Names) (f f' : F) (s s' : S) (k k' : K) where
   -- the file was read whole, and this is what a check of its text did

@@ -1,8 +1,8 @@
 -- The items that declare what has a name that Rust refuses.
 --     DeclaresLaid items groups k g n      the item at place k declares the setting that stands at place n of the group g, as it is built
 --     DeclaresNamed items b k place part   the item at place k declares what has the name
---     NameHasItem items b name             so does the item with whose line the name is told
---     HasItsLine path names text d message     the message tells a name in the line of such an item
+--     NameHasItem items b name             so does the item whose line is in the message of the name
+--     HasItsLine path names text d message     the message of a name has the line of such an item
 use Rattle.std.specs.Prelude.{◌≡◌, ℕ, ◌+◌, List, take, slice_get, count_by, Some, Contains}
 use Rattle.meta_types.specs.declared.fault.Place.{Place}
 use Rattle.meta_types.specs.declared.fault.Place.TheVariants.{Instruction, Format, Group, Entry}
@@ -42,7 +42,7 @@ pub record DeclaresLaid (items : List Item) (groups : List Layout) (k g n : ℕ)
   pub stands : slice_get layout.settings n ≡ Some placed
   pub is : placed ≡ placed_at setting byte boolean
 
--- and it is an enum, which has a value at place v
+-- the same, and the setting is an enum, which has a value at place v
 pub record DeclaresValue (items : List Item) (groups : List Layout) (k g n v : ℕ) : Type 0 where
   pub laid : DeclaresLaid items groups k g n
   pub values : List (List ℕ)
@@ -67,20 +67,21 @@ DeclaresInGroup items b k g (part.Setting n) = DeclaresLaid items b.groups k g n
 DeclaresInGroup items b k g (part.SettingType n) = DeclaresLaid items b.groups k g n
 DeclaresInGroup items b k g (part.Value n v) = DeclaresValue items b.groups k g n v
 
--- the item at place k declares the instruction or the format at the place, or what has the name in a group; no name stands at an entry
+-- the item at place k declares the instruction or the format at the place, or what has the name in a group; an entry of a group has no name
+-- here
 abbrev pub DeclaresNamed : List Item → BuiltDeclarations → ℕ → Place → Part → Type 0
 DeclaresNamed items b k (Instruction i) part = DeclaresAt items b.declared k (Instruction i)
 DeclaresNamed items b k (Format f) part = DeclaresAt items b.declared k (Format f)
 DeclaresNamed items b k (Group g) part = DeclaresInGroup items b k g part
 DeclaresNamed items b k (Entry g e) part = ⊥
 
--- the item with whose line the name is told declares what has it
+-- the item whose line is in the message of the name declares what has the name
 pub record NameHasItem (items : List Item) (b : BuiltDeclarations) (name : RefusedName) : Type 0 where
   pub place : ℕ
   pub item : place_of_name items name ≡ Some place
   pub declares : DeclaresNamed items b place name.place name.part
 
--- the message tells a name, of those that Rust refuses of what the text declares, in the line of the item that declares what has it
+-- the message is that of a name which the text declares and Rust refuses, and has the line of the item that declares what has the name
 pub record HasItsLine (path : List ℕ) (names : Names) (text : List ℕ) (d : Declared) (message : List ℕ) : Type 0 where
   pub items : List Item
   pub lines : List ℕ

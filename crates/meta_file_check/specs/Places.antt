@@ -12,7 +12,7 @@ use Rattle.meta_rust_words.specs.declared.refused.Part.TheVariants as part
 use Rattle.meta_rust_words.specs.declared.refused.RefusedName.{RefusedName}
 use Rattle.meta_file_check.specs.declared.places.ItemPlaces.{ItemPlaces}
 
--- which setting of its group a part is of, as the group is laid out, if it is of one
+-- the setting of its group to which a part belongs, as the group is laid out, if it belongs to one
 abbrev pub setting_of : Part → Option ℕ
 setting_of part.Name = None
 setting_of (part.Input n) = None
@@ -38,7 +38,7 @@ abbrev pub place_in_group : List Item → ℕ → Option ℕ → Option ℕ
 place_in_group items g None = place_of_group items g
 place_in_group items g (Some n) = option_and_then (setting_behind items n) (place_of_group items g)
 
--- no name stands at an entry of a group: those of a setting stand at its group
+-- an entry of a group has no name here: those of a setting are at its group
 abbrev pub place_of_part : List Item → Place → Option ℕ → Option ℕ
 place_of_part items (Instruction i) setting = place_of_inst items i
 place_of_part items (Format f) setting = place_of_format items f

@@ -1,6 +1,6 @@
--- What is told of the names of a file that Rust refuses.
+-- The messages on the names of a file that Rust refuses.
 --     why_said names name                      why, as a warning or a refusal
---     told path names items lines name         the message, `PATH:LINE: WHY`, where there is an item
+--     told path names items lines name         the message, `PATH:LINE: WHY`, if there is an item
 --     AreTold path names text d messages       the messages of all such names
 use Rattle.std.specs.Prelude.{◌≡◌, ℕ, List, ◌++◌, Option, Some, option_map, option_and_then, slice_get, map, codes}
 use Rattle.meta_items.specs.declared.items.Item.{Item}
@@ -25,7 +25,7 @@ abbrev pub told : List ℕ → Names → List Item → List ℕ → RefusedName 
 told path names items lines name =
     option_map (λ line. located path line (why_said names name)) (option_and_then (slice_get lines) (place_of_name items name))
 
--- these are the messages of all names that Rust refuses, in order, of the declarations that the text makes: of each there is one
+-- these are the messages, in order, of all names that Rust refuses, of the declarations that the text makes: each has one
 pub record AreTold (path : List ℕ) (names : Names) (text : List ℕ) (d : Declared) (messages : List (List ℕ)) : Type 0 where
   pub items : List Item
   pub lines : List ℕ

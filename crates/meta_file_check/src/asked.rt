@@ -6,17 +6,17 @@ ghost use Rattle.meta_file_check.specs.declared.asked.Names.TheVariants as spec_
 use meta_file::{is_check, is_rust};
 use meta_types::Text;
 
-/// What a check does with names that Rust refuses (this project's own).
+/// What a check does with names that Rust refuses.
 #[derive(Clone, Copy, Debug, PartialEq, Eq)]
 pub enum Names {
-    /// `check`: it tells them, and goes on.
+    /// `check`: it warns of them, and goes on.
     Warn,
-    /// `check --rust`: it tells them, and refuses the file.
+    /// `check --rust`: it refuses the file for them.
     Refuse,
 }
 
 impl Names {
-    /// What words ask a check for, and `None` exactly where they ask for no check.
+    /// What words ask of a check. It is `None` exactly if they ask for no check.
     pub fn asked(words: &[Text]) -> Option<Names>
         ensures some { IfSome result (λ names. words.now ≡ check_words names) }
         ensures none { IfNone result ((names : spec.Names) → words.now ≢ check_words names) }
@@ -28,7 +28,6 @@ impl Names {
         }
     }
 
-    /// Whether names are refused.
     pub(crate) fn are_refused(self) -> bool
         ensures { IsTrue result ↔ (self ≡ spec_names.Refuse) }
     {

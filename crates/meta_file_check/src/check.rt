@@ -18,14 +18,14 @@ use meta_text::{ReadError, Sink, Source, read_whole};
 use meta_tokens::Bytes;
 use std::alloc::Global;
 
-/// The end where memory ran out.
+/// The ending if memory ran out.
 fn out_of_memory(alloc: Global) -> CheckEnding
     ensures { IsOutOfMemory result }
 {
     CheckEnding::Ran(Ending::OutOfMemory, Vec::new(alloc))
 }
 
-/// Counts the declarations, where these messages of their names don't have them refused.
+/// Counts the declarations, unless these messages of their names have the file refused.
 fn check_told<S: Source, K: Sink>(
     alloc: Global,
     path: &[u8],
@@ -48,7 +48,7 @@ fn check_told<S: Source, K: Sink>(
     CheckEnding::Ran(ending, messages)
 }
 
-/// Checks declarations that a text makes, and that show no fault.
+/// Checks valid declarations that a text makes.
 fn check_declared<S: Source, K: Sink>(
     alloc: Global,
     path: &[u8],
@@ -77,7 +77,6 @@ fn check_declared<S: Source, K: Sink>(
     }
 }
 
-/// Checks a text.
 fn check_text<S: Source, K: Sink>(
     alloc: Global,
     path: &[u8],
@@ -118,12 +117,11 @@ fn attempt<F: Source, S: Source, K: Sink>(
     }
 }
 
-/// Reads a file, counts what it declares, as `run_file` does for `check`, and tells the names that Rust refuses; where they are to be
-/// refused and there are some, nothing is written (this project's own). The path stands in messages alone, and the source isn't read.
+/// Reads a file, and counts what it declares, as `run_file` does for `check`. The ending has a message for each name that Rust refuses. If
+/// these names are to be refused and there are some, nothing is written. The path is for messages alone, and the source isn't read.
 ///
-/// The order is: the whole file; what it reads as and declares, which is refused by the first thing that is wrong, in the order of `load`;
-/// its names; the count, which is written. Memory may run out at any point. `FileTooLong` comes exactly where the file gave more than
-/// 1,048,576 bytes.
+/// The order is: the whole file; its items and declarations, which are refused by what is wrong first, in the order of `load`; its names;
+/// the count, which is written. Memory may run out at any point. `FileTooLong` comes exactly if the file gave more than 1,048,576 bytes.
 pub fn check_file<F: Source, S: Source, K: Sink>(
     alloc: Global,
     path: &[u8],
@@ -132,14 +130,15 @@ pub fn check_file<F: Source, S: Source, K: Sink>(
     source: &mut S,
     sink: &mut K,
 ) -> CheckEnding
-    // What was read and written, and what is told, by how it ended.
+    // What was read and written, and which messages there are, by how the check ended.
     ensures did { DidCheck F.left F.faults S.left S.faults K.taken K.faults path.now names file.old file.new
         source.old source.new sink.old sink.new result }
 
-    // What a file declares without a fault is counted, and its names are told, or refused where that is asked.
+    // If a file makes valid declarations, they are counted, and there is a message for each name that Rust refuses. If that is asked, the
+    // file is refused for these names.
     ensures headline { AnswersCheck F.left F.faults S.left S.faults K.taken K.faults path.now names file.old file.new
         source.old source.new sink.old sink.new result }
-    // Names are refused only there.
+    // Names are refused only then.
     ensures names_refused_only { AreNamesRefusedOnly F.left F.faults S.left S.faults K.taken K.faults path.now names file.old file.new
         source.old source.new sink.old sink.new result }
 
@@ -149,13 +148,12 @@ pub fn check_file<F: Source, S: Source, K: Sink>(
     ensures refused_only { IsRefusedOnly F.left F.faults S.left S.faults K.taken K.faults path.now names file.old file.new
         source.old source.new sink.old sink.new result }
 
-    // Where nothing fails there is an answer, whether bytes are told or not.
+    // If nothing fails, there is an answer, for any file and sink.
     ensures complete { Completes F.left F.faults S.left S.faults K.taken K.faults path.now names file.old file.new
         source.old source.new sink.old sink.new result }
 
-    // No more than the limit is read of the file, and no read of it fails, unless that is why it ended, and its count of faults never
-    // falls. The source isn't read.
-    // Nothing is written where memory runs out, the file isn't read whole, or it or its names are refused.
+    // Unless the ending says so, no more than the limit is read of the file, and no read of it fails. Its count of faults never falls. The
+    // source isn't read. Nothing is written if memory runs out, the file isn't read whole, or it or its names are refused.
     ensures file_within { result ≢ FileTooLong → GaveAtMost longest_input (F.left file.old) (F.left file.new) }
     ensures file_else_no_fault { result ≢ FileFault → F.faults file.new ≡ F.faults file.old }
     ensures file_counted { F.faults file.old ≤ F.faults file.new }

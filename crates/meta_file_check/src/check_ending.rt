@@ -4,15 +4,15 @@ ghost use Rattle.meta_file_check.specs.Checked.{check_code};
 use meta_run::Ending;
 use meta_tokens::Bytes;
 
-/// How a check of a file ended (this project's own). Each message is `PATH:LINE: WHY`, without a line feed.
+/// How a check of a file ended. Each message is `PATH:LINE: WHY`, without a line feed.
 #[derive(Drop)]
 pub enum CheckEnding {
-    /// Memory ran out, or the file declares what shows no fault, the count was written so, and these are the messages of names that Rust
+    /// Memory ran out, or the file makes valid declarations and the count was written so. The messages are those of names that Rust
     /// refuses.
     Ran(Ending, Vec<Bytes>),
-    /// Names are refused: these are all messages, one or more.
+    /// The file is refused for its names. These are the messages of all of them, at least one.
     NamesRefused(Vec<Bytes>),
-    /// The file is refused, and why.
+    /// The file is refused. The message says why.
     Refused(Bytes),
     /// The file can't be read.
     FileFault,
@@ -21,8 +21,8 @@ pub enum CheckEnding {
 }
 
 impl CheckEnding {
-    /// The exit status of the process: that of `Ending::code`; 1 where the file or its names are refused, 6 where it is too long, and 8
-    /// where it can't be read.
+    /// The exit status of the process: that of `Ending::code`; 1 if the file or its names are refused, 6 if it is too long, and 8 if it
+    /// can't be read.
     pub fn code(&self) -> u8
         ensures { result ≡ check_code self.now }
     {

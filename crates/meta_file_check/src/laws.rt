@@ -11,8 +11,8 @@ ghost use Rattle.meta_file_check.specs.declared.asked.Names.{Names as spec_Names
 
 use meta_items_reader::what_is_read;
 
-/// Each name that Rust refuses, of what items declare, has an item: that in whose line it is told declares what has the name, which is
-/// an instruction, a format, a group, or a setting as its group is built. So each message of a check has the line of such an item.
+/// Each name that Rust refuses is reported with the line of an item: the item that declares the instruction, format or group with the name,
+/// or the setting, as its group is built. So each message of a check has the line of such an item.
 pub fn names_have_their_items()
     ensures items { (items : List Item) (b : BuiltDeclarations) → DeclaresItems items b.declared → AreBuilt b
         → All (NameHasItem items b) (refused_names b) }

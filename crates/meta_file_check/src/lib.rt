@@ -1,6 +1,8 @@
-//! A check of a file of declarations: that it shows no fault, and the names with which the texts of Rust aren't compiled, by their lines.
+//! A check of a file of declarations: whether they are valid, and which names rustc wouldn't compile in the texts of Rust, with their
+//! lines.
 //!
-//! `Names::asked` says what words ask of these names, and `check_file` reads the file, counts what it declares, and tells them.
+//! `Names::asked` says what words ask of these names. `check_file` reads the file, counts what it declares, and makes a message for each
+//! such name.
 #![tactic(auto)]
 
 mod asked;

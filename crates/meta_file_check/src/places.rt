@@ -8,8 +8,8 @@ use meta_rust_words::{Part, RefusedName};
 use meta_types::Place;
 use std::alloc::{AllocError, Global};
 
-/// The places of the items, from 0, that declare instructions and formats and open groups. Where a call is lent the items and doesn't read
-/// them, its contract does.
+/// The places of the items, from 0, that declare instructions and formats and open groups. Some calls are lent the items and don't read
+/// them; their contracts do.
 #[derive(Drop)]
 pub(crate) struct ItemPlaces {
     insts: Vec<usize>,
@@ -17,7 +17,7 @@ pub(crate) struct ItemPlaces {
     groups: Vec<usize>,
 }
 
-/// Which setting of its group the part is of, as the group is laid out, if it is of one.
+/// The setting of its group to which the part belongs, as the group is laid out, if it belongs to one.
 fn setting_of(part: Part) -> Option<u64>
     ensures { result ≡ setting_of part }
 {
@@ -41,7 +41,7 @@ fn setting_behind(items: &[Item], setting: u64, opener: usize) -> Option<usize>
 }
 
 impl ItemPlaces {
-    /// Those of these items.
+    /// The places of these items.
     pub(crate) fn of(alloc: Global, items: &[Item]) -> Result<ItemPlaces, AllocError>
         ensures { IfOk result (λ places. ArePlaces places items.now) }
     {
@@ -63,7 +63,7 @@ impl ItemPlaces {
         })
     }
 
-    /// The place of the item that declares this instruction, which counts from 1.
+    /// The place of the item that declares the instruction of this number, from 1.
     fn of_inst(&self, _items: &[Item], number: u64) -> Option<usize>
         requires { ArePlaces self.now _items.now }
         ensures { result ≡ place_of_inst _items.now number }

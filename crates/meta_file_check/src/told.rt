@@ -25,7 +25,7 @@ fn why_said(alloc: Global, names: Names, name: &RefusedName) -> Result<String, A
     }
 }
 
-/// The message of a name, which an item declares; where there is none, that is handled as want of memory.
+/// The message of a name, which an item declares. If there were no item, the error would be `AllocError`.
 fn told(
     alloc: Global,
     path: &[u8],
@@ -47,7 +47,6 @@ fn told(
     located(alloc, path, *line, why.as_bytes())
 }
 
-/// The messages of names, in order.
 fn all_told(
     alloc: Global,
     path: &[u8],
@@ -66,7 +65,7 @@ fn all_told(
     Ok(messages)
 }
 
-/// The items of a text that reads as items; if it didn't, that would be handled as want of memory.
+/// The items of a text that reads as items. If it didn't, the error would be `AllocError`.
 fn items_of(alloc: Global, text: &[u8]) -> Result<ReadItems, AllocError>
     ensures { IfOk result (λ r. AreReadOf text.now r.items.items r.lines.items) }
 {
@@ -76,7 +75,7 @@ fn items_of(alloc: Global, text: &[u8]) -> Result<ReadItems, AllocError>
     }
 }
 
-/// The messages of the names of what is built of the declarations that a text makes. The text is read only where there are some.
+/// The messages of the names of what is built of the declarations that a text makes. The text is read only if there are such names.
 fn told_of(
     alloc: Global,
     path: &[u8],
@@ -87,7 +86,7 @@ fn told_of(
     requires { Declares text.now built.now.declared }
     ensures { IfOk result (λ messages. AreTold path.now names text.now built.now.declared messages.items) }
 {
-    // Its clause says that this is what is built of them.
+    // The clause of `declarations` says that this is what is built of them.
     let _declarations = built.declarations();
     let refused = refused_names(alloc, built)?;
     if refused.is_empty() {
@@ -97,9 +96,9 @@ fn told_of(
     all_told(alloc, path, names, &items, &refused)
 }
 
-/// The messages, in order, of all names that Rust refuses, of the declarations that a text makes and that show no fault: `PATH:LINE: WHY`,
-/// without a line feed, with the line of the item that declares what has the name (`names_have_their_items`); in front of why, a warning
-/// says `warning: ` (this project's own). The only error is want of memory.
+/// Makes the messages, in order, of all names that Rust refuses in the valid declarations that a text makes. A message is `PATH:LINE: WHY`,
+/// without a line feed, with the line of the item that declares what has the name (`names_have_their_items`). In a warning, `warning: `
+/// stands before WHY.
 pub fn names_told(
     alloc: Global,
     path: &[u8],

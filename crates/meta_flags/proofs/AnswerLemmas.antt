@@ -4,7 +4,7 @@ use Rattle.std.specs.Prelude.{Option}
 use Rattle.meta_flags.specs.Served.{Served, State}
 use Rattle.meta_flags.specs.FlagAnswers.{IsLineServed, IsAnswered, AreFlagAnswers}
 
--- a line that isn't empty is answered as it is served
+-- a line that isn't empty is answered by what it asks
 pub answered : (g : Option Served) (line : List ℕ) (old new : State) (out : List ℕ) → false ≡ (length line == 0)
     → IsLineServed g line old new out → IsAnswered g line old new out
 answered g [] old new out some h = absurd (cc)

@@ -17,13 +17,13 @@ use Rattle.meta_flags.specs.Held.{AreHeld}
 use Rattle.meta_flags.proofs.Places.{defaults, counted, settings_first, setting_count}
 use Rattle.meta_flags.proofs.OfKinds.{default_kinds}
 
--- behind the last there are no more
+-- after the last there are no more
 pub all_defaults : (t : GroupContents) (ds : List Descriptor) (i : ℕ) (old all : State) → length ds ≤ i
     → old ++ defaults t (drop i ds) ≡ all → old ≡ all
 all_defaults t ds i old all past before =
     sym (append-nil old) ∙ ap (λ (xs : List Descriptor). old ++ defaults t xs) (sym (drop_past ds i (slice_get_past ds i past))) ∙ before
 
--- the defaults are held
+-- the defaults are values that the settings can have, one for each setting
 pub held : (t : GroupContents) (state : State) → IsWellFormedGroup t → setting_count t.descriptors ≤ length t.descriptors
     → state ≡ defaults t t.descriptors → AreHeld (record { group = t; state = state })
 held t state well few is =
@@ -36,7 +36,7 @@ held t state well few is =
       kinds = default_kinds t state well few is;
     }
 
--- the values of an enum are some
+-- the list of values of an enum isn't empty
 pub some_values : (values enumerators : List (List ℕ)) (last place : ℕ) → values ≡ take (last + 1) (drop place enumerators)
     → place + (last + 1) ≤ length enumerators → length values ≡ 0 → ⊥
 some_values values enumerators last place is inside none =

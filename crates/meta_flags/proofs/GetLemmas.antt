@@ -53,7 +53,7 @@ module _ (t : GroupContents) (name : List ℕ) (state : State) (settings : AreSe
         there = there;
       }
 
-  -- and else it is a preset
+  -- if there is no value at its place, the entry is a preset
   pub of_preset : length state ≤ e → IsOfPreset (served_in t) name
   of_preset past =
       let (d, at, _) = descriptor in

@@ -49,7 +49,7 @@ set_kinds t state place d v old own can e x w at there = ⊎_elim
     (λ other. old e x w at (sym (get_set_other state place e v other) ∙ there))
     (cases_eq e place)
 
--- with as many values as settings, the settings are held
+-- new values, as many as the settings, and each of its kind, are values of the settings
 same_held : (t : GroupContents) (state new : State) → AreHeld (record { group = t; state = state }) → length new ≡ length state
     → AreOfKinds t new → AreHeld (record { group = t; state = new })
 same_held t state new old count kinds =

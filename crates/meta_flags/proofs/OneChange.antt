@@ -1,4 +1,4 @@
--- What a line changes and answers is one.
+-- A line has at most one change and one answer.
 use Rattle.std.proofs.Common.{◌≡◌, inl, inr, ℕ, ◌<◌, List, length, slice_get, slice_set, Result, Ok, Err, refl, sym, ap, ◌∙◌, subst, arith}
 use Rattle.std.proofs.lemmas.Bool.{cases_lt}
 use Rattle.std.proofs.lemmas.Fmt.{decimal_injective}
@@ -13,7 +13,7 @@ module _ (g : Served) (name : List ℕ) where
   not_before : (p q : ℕ) (k l : EntryKind) → IsNamedEntry g name p k → IsNamedEntry g name q l → p < q → ⊥
   not_before p q k l one other less = other.first p (record { name = name; kind = k }) less one.at refl
 
-  -- the entry of a name is one
+  -- a name has at most one entry
   one_place : (p q : ℕ) (k l : EntryKind) → IsNamedEntry g name p k → IsNamedEntry g name q l → p ≡ q
   one_place p q k l one other = elim (cases_lt p q) [
     | inl less ↦ absurd (not_before p q k l one other less)
@@ -27,11 +27,11 @@ module _ (g : Served) (name : List ℕ) where
   one_kind p q k l one other =
       ap (λ (e : ServedEntry). e.kind) (same_Some _ _ (sym one.at ∙ ap (slice_get g.entries) (one_place p q k l one other) ∙ other.at))
 
-  -- a name that an entry has is that of some
+  -- if an entry has a name, it isn't so that no entry has it
   not_none : (p : ℕ) (k : EntryKind) → IsNamedEntry g name p k → HasNone g name → ⊥
   not_none p k entry none = none p (record { name = name; kind = k }) entry.at refl
 
-  -- a value that is written is one
+  -- a text writes at most one value
   one_text : (kind : EntryKind) (text : List ℕ) (v w : SettingValue) → IsText kind text v → IsText kind text w → v ≡ w
   one_text (BoolKind default) text v w (inl (t, a)) (inl (s, b)) = a ∙ sym b
   one_text (BoolKind default) text v w (inl (t, a)) (inr (s, b)) = let e = ap length (sym t ∙ s) in absurd (omega (arith, e))

@@ -1,4 +1,4 @@
--- The answers to the lines of an input are one.
+-- The lines of an input have at most one list of answers.
 use Rattle.std.proofs.Common.{◌≡◌, inl, inr, List, [], ◌∷◌, ◌++◌, ℕ, Option, None, Some, sym, ap, ap₂, ◌∙◌, subst}
 use Rattle.meta_flags.specs.Served.{Served, State}
 use Rattle.meta_flags.specs.Replies.{change_line, got_line}
@@ -7,7 +7,7 @@ use Rattle.meta_flags.specs.FlagAnswers.{IsServed, IsServedBy, IsLineServed, IsA
 use Rattle.meta_flags.proofs.OneChange.{one_set, one_enable, one_get}
 use Rattle.meta_flags.proofs.RequestLemmas.{request_pieces, same_request}
 
--- what a request does and how it is answered is one
+-- a request has at most one effect and one answer
 one_served : (g : Served) (r : Request) (old new next : State) (out text : List ℕ) → IsServed g r old new out
     → IsServed g r old next text → (new ≡ next) × (out ≡ text)
 one_served g (Set name value) old new next out text (r, a, e) (s, b, f) =
@@ -22,7 +22,7 @@ one_served_by : (g : Option Served) (r : Request) (old new next : State) (out te
 one_served_by None r old new next out text (n, e) (m, f) = (n ∙ sym m, e ∙ sym f)
 one_served_by (Some g) r old new next out text a b = one_served g r old new next out text a b
 
--- so is what a line does
+-- a line has at most one effect and one answer
 one_line : (g : Option Served) (line : List ℕ) (old new next : State) (out text : List ℕ)
     → IsLineServed g line old new out → IsLineServed g line old next text → (new ≡ next) × (out ≡ text)
 one_line g line old new next out text (inl (q, asks, a)) (inl (r, asked, b)) =
@@ -37,7 +37,7 @@ one_answer : (g : Option Served) (line : List ℕ) (old new next : State) (out t
 one_answer g [] old new next out text (n, e) (m, f) = (n ∙ sym m, e ∙ sym f)
 one_answer g (c ∷ cs) old new next out text a b = one_line g (c ∷ cs) old new next out text a b
 
--- and so are all answers
+-- lines have at most one list of answers
 pub one_output : (g : Option Served) (lines : List (List ℕ)) (state : State) (out text : List ℕ)
     → AreFlagAnswers g state lines out → AreFlagAnswers g state lines text → out ≡ text
 one_output g [] state out text a b = a ∙ sym b

@@ -1,4 +1,4 @@
--- Settings stand before presets, so that the number of a setting is its place among the values.
+-- Settings come before presets, so the number of a setting is its place among the values.
 use Rattle.std.proofs.Common.{◌≡◌, ◌↔◌, ℕ, zero, suc, ◌+◌, ◌<◌, ◌≤◌, Bool, true, false, not, List, [], ◌∷◌, ◌++◌, length, map, take, refl}
 use Rattle.std.proofs.Common.{sym, ap, ◌∙◌, length-append, arith}
 use Rattle.std.specs.List.{flat_map}
@@ -51,11 +51,11 @@ no_default t offset PresetDetail other = refl
 abbrev pub defaults : GroupContents → List Descriptor → State
 defaults t ds = flat_map (λ (e : ServedEntry). default_of e.kind) (map (served_entry t) ds)
 
--- where none of the entries is a setting, neither are those behind the first
+-- if none of the entries is a setting, neither are those after the first
 none_behind : (d : Descriptor) (ds : List Descriptor) → AreSettings (d ∷ ds) 0 → AreSettings ds 0
 none_behind d ds first e x at = ((λ is. let l = (first (suc e) x at).0 is in absurd (omega (arith, l))), (λ l. absurd (omega (arith, l))))
 
--- behind the first setting there is one less
+-- after the first setting there is one less
 pub one_less : (d : Descriptor) (ds : List Descriptor) (n : ℕ) → AreSettings (d ∷ ds) (suc n) → AreSettings ds n
 one_less d ds n first e x at =
     ((λ is. let l = (first (suc e) x at).0 is in omega (arith, l)), (λ l. (first (suc e) x at).1 (omega (arith, l))))
@@ -79,7 +79,7 @@ is_true : (b : Bool) → (b ≡ false → ⊥) → b ≡ true
 is_true true other = refl
 is_true false other = absurd (other refl)
 
--- the settings are the first so many entries
+-- the settings are the first n entries
 pub settings_taken : (ds : List Descriptor) (n : ℕ) → AreSettings ds n → settings_in ds ≡ take n ds
 settings_taken [] zero first = refl
 settings_taken [] (suc n) first = refl

@@ -17,7 +17,7 @@ first_letter words = get_or (get_or words 0 []) 0 0
 
 -- ---- the words of a request
 
--- the command of a request, and the words behind it
+-- the command of a request, and the words after it
 abbrev pub command_in : Request → RequestWord
 command_in (Set name value) = command.Set
 command_in (Enable name) = command.Enable
@@ -104,7 +104,7 @@ module _ (line : List ℕ) where
       (request_pieces line r h ∙ first_word r)
 
   module _ (word : List ℕ) (rest : List (List ℕ)) (pieces : pieces_of 32 line ≡ word ∷ rest) where
-    -- nor does one whose first word is no command
+    -- a line whose first word is no command asks nothing
     pub no_command : ((c : RequestWord) → word ≢ command_word c) → (r : Request) → Requests line r → ⊥
     no_command none r h =
         let both : word ∷ rest ≡ command_word (command_in r) ∷ behind_in r = sym pieces ∙ request_pieces line r h ∙ first_word r in
@@ -115,18 +115,18 @@ module _ (line : List ℕ) where
       own : pieces_of 32 line ≡ command_word c ∷ rest
       own = pieces ∙ ap (λ w. w ∷ rest) is
 
-      -- nor one behind whose command other words stand
+      -- a line with other words after its command asks nothing
       pub no_request : ((r : Request) → All HasBytes (request_words r) → command_word c ∷ rest ≢ request_words r)
           → (r : Request) → Requests line r → ⊥
       no_request none r h = none r (words_have_bytes line r h) (sym own ∙ request_pieces line r h)
 
       module _ (q : Request) (left : List (List ℕ)) (taken : command_word c ∷ rest ≡ request_words q ++ left) where
-        -- nor one with more words
+        -- a line with more words asks nothing
         pub no_more : (more : List ℕ) (others : List (List ℕ)) → left ≡ more ∷ others → (r : Request) → Requests line r → ⊥
         no_more more others e r h = no_longer q r more others (ap (λ ws. request_words q ++ ws) (sym e) ∙ sym taken
             ∙ sym own ∙ request_pieces line r h)
 
-        -- and one with these words asks
+        -- a line with these words asks
         pub asks : All HasBytes (request_words q) → left ≡ [] → Requests line q
         asks some none = are_words line (request_words q) (sym (own ∙ taken ∙ ap (λ ws. request_words q ++ ws) none ∙ all q)) some
           where

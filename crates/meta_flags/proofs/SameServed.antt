@@ -44,7 +44,7 @@ no_preset enumerators before (AnEnum values) detail is = ap is_preset is.is
 no_preset enumerators before (ANum default) detail is = ap is_preset is
 
 module _ (marked : Descriptor → Bool) (is_named : PlacedSetting → Bool) where
-  -- settings and their descriptors, behind which presets stand, are marked the same
+  -- settings and their descriptors, after which presets come, are marked the same
   same_marks : (ss : List PlacedSetting) (ds : List Descriptor)
       → ((k : ℕ) (s : PlacedSetting) (d : Descriptor) → slice_get ss k ≡ Some s → slice_get ds k ≡ Some d
       → AreNamedAlike marked is_named s d × (is_preset d.detail ≡ false)) → length ss ≤ length ds
@@ -98,7 +98,7 @@ module _ (g : GroupDeclaration) (t : GroupContents) (made : AreTablesOfGroup (bu
           let (q, q_at) = get_there layout.presets n (omega (arith, within, count, place)) in
           ap (λ (x : Descriptor). is_preset x.detail) ((made.entries j d d_at).preset n q place q_at)
 
-  -- so is a preset
+  -- a preset is served the same
   preset_at : (e k : ℕ) (d : Descriptor) (p : BuiltPreset) → slice_get t.descriptors e ≡ Some d
       → e ≡ length layout.settings + k → slice_get layout.presets k ≡ Some p → served_entry t d ≡ served_preset layout p
   preset_at e k d p at behind p_at =

@@ -20,7 +20,7 @@ setting_detail (EnumDetail last place) other = refl
 setting_detail NumDetail other = refl
 setting_detail PresetDetail other = absurd (other refl)
 
--- and of no preset's kind
+-- an entry that is no preset isn't of a preset's kind
 pub setting_kind : (t : GroupContents) (offset : ℕ) (detail : Detail) → (detail ≡ PresetDetail → ⊥)
     → IsPresetKind (kind_in t offset detail) → ⊥
 setting_kind t offset detail other = no_preset t offset detail (setting_detail detail other)

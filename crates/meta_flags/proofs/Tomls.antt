@@ -15,7 +15,7 @@ line_added es state k e v now new all e_at v_at more before =
     ap (λ t. t ++ rest) more ∙ append_assoc now (toml_line e.name v) rest
     ∙ ap (λ t. now ++ t) (sym (ap₂ toml_lines (drop_next es k e e_at) (drop_next state k v v_at))) ∙ before
 
--- behind the last value there are no more
+-- after the last value there are no more
 no_lines : (es : List ServedEntry) → toml_lines es [] ≡ []
 no_lines [] = refl
 no_lines (e ∷ es) = refl

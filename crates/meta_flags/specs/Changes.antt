@@ -1,5 +1,5 @@
 -- What a service does to its values, and what it answers.
---     Sets, Enables, Gets
+--     Sets, Enables, Gets      what the requests of these names do
 use Rattle.std.specs.Prelude.{◌≡◌, ◌≢◌, ◌⊎◌, ℕ, ◌<◌, Bool, true, false, List, [], ◌∷◌, slice_get, slice_set, Contains, Some, Result, Ok}
 use Rattle.std.specs.Prelude.{Err, codes, if◌then◌else◌}
 use Rattle.std.specs.Fmt.{decimal}
@@ -17,7 +17,7 @@ pub record IsNamedEntry (g : Served) (name : List ℕ) (e : ℕ) (kind : EntryKi
   pub at : slice_get g.entries e ≡ Some (record { name = name; kind = kind })
   pub first : (j : ℕ) (entry : ServedEntry) → j < e → slice_get g.entries j ≡ Some entry → entry.name ≢ name
 
--- it is a preset
+-- the kind is a preset's
 abbrev pub IsPresetKind : EntryKind → Type 0
 IsPresetKind kind = (marks : List Bool) × (kind ≡ PresetKind marks)
 
@@ -36,7 +36,7 @@ CanHave (NumKind default) v = (n : ℕ) × (n < 256) × (v ≡ NumValue n)
 CanHave (EnumKind values) v = (text : List ℕ) × Contains values text × (v ≡ EnumValue text)
 CanHave (PresetKind marks) v = ⊥
 
--- the setting of the name has the value that is written, and the other values are as they were
+-- the setting of the name has the value that is written, and the other values are as before
 pub record IsSet (g : Served) (name text : List ℕ) (old new : State) : Type 0 where
   pub place : ℕ
   pub kind : EntryKind
@@ -52,7 +52,7 @@ pub record IsOfPreset (g : Served) (name : List ℕ) : Type 0 where
   pub entry : IsNamedEntry g name place kind
   pub is_preset : IsPresetKind kind
 
--- the entry of the name is a setting, and no value of its kind is so written
+-- the entry of the name is a setting, and the text writes no value of its kind
 pub record IsNoValue (g : Served) (name text : List ℕ) : Type 0 where
   pub place : ℕ
   pub kind : EntryKind
@@ -60,8 +60,8 @@ pub record IsNoValue (g : Served) (name text : List ℕ) : Type 0 where
   pub setting : IsPresetKind kind → ⊥
   pub none : (v : SettingValue) → IsText kind text v → ⊥
 
--- the setting of the name gets the value that is written; else nothing changes, since no entry has the name, it is a preset's, or no
--- value is so written
+-- the setting of the name gets the value that is written; or else nothing changes, since no entry has the name, it is a preset's, or the
+-- text writes no value of the setting
 abbrev pub Sets : Served → List ℕ → List ℕ → State → Result (Unit {0}) FlagError → State → Type 0
 Sets g name text old (Ok done) new = IsSet g name text old new
 Sets g name text old (Err Unknown) new = HasNone g name × (new ≡ old)
@@ -74,7 +74,7 @@ with_marked_true [] state = state
 with_marked_true (mark ∷ marks) [] = []
 with_marked_true (mark ∷ marks) (v ∷ vs) = (if mark then BoolValue true else v) ∷ with_marked_true marks vs
 
--- what becomes of the values where the entry of this kind at e is enabled: a boolean is true, and of a preset what it marks
+-- the values after the entry of this kind at e is enabled: a boolean is true, and for a preset the booleans that it marks are
 abbrev pub IsEnabled : EntryKind → ℕ → State → State → Type 0
 IsEnabled (BoolKind default) e old new = new ≡ slice_set old e (BoolValue true)
 IsEnabled (NumKind default) e old new = ⊥
@@ -97,7 +97,7 @@ pub record IsOfNoSwitch (g : Served) (name : List ℕ) : Type 0 where
   pub entry : IsNamedEntry g name place kind
   pub no_switch : IsNoSwitch kind
 
--- the boolean of the name, or each that the preset of the name marks, becomes true; else nothing changes, since no entry has the name,
+-- the boolean of the name, or each that the preset of the name marks, becomes true; or else nothing changes, since no entry has the name,
 -- or it is a number's or an enum's
 abbrev pub Enables : Served → List ℕ → State → Result (Unit {0}) FlagError → State → Type 0
 Enables g name old (Ok done) new = Enabled g name old new

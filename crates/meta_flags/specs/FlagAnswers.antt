@@ -1,6 +1,6 @@
 -- The answers of a service of settings to the lines of an input.
 --     AreFlagAnswers g state lines out       the answers, from these values on
---     IsOutputOver g input out               those to the lines of an input, from the defaults on
+--     IsOutputOver g input out               the answers to the lines of an input, from the defaults on
 use Rattle.std.specs.Prelude.{◌≡◌, ℕ, ◌⊎◌, List, [], ◌∷◌, ◌++◌, Option, None, Some, Result, Err, codes}
 use Rattle.meta_words.specs.Lines.{lines_of}
 use Rattle.meta_flags.specs.Served.{SettingValue, Served, State, initial}
@@ -18,7 +18,7 @@ IsServed g (Enable name) old new out = (r : Result (Unit {0}) FlagError) × Enab
 IsServed g (Get name) old new out = (r : Result SettingValue FlagError) × Gets g name old r × (new ≡ old) × (out ≡ got_line r)
 IsServed g Toml old new out = (new ≡ old) × (out ≡ toml_text g old)
 
--- where there is no group no entry has a name, and there is nothing to write
+-- if there is no group, no entry has a name, and there is nothing to write
 abbrev pub none_text : Request → List ℕ
 none_text (Set name value) = change_line (Err Unknown)
 none_text (Enable name) = change_line (Err Unknown)
@@ -29,13 +29,13 @@ abbrev pub IsServedBy : Option Served → Request → State → State → List �
 IsServedBy None r old new out = (new ≡ old) × (out ≡ none_text r)
 IsServedBy (Some g) r old new out = IsServed g r old new out
 
--- what a line that isn't empty does: what it asks for; or nothing, where it asks nothing, which is answered `bad`
+-- what a line that isn't empty does: what it asks for; or nothing, if it asks nothing, and the answer is `bad`
 abbrev pub IsLineServed : Option Served → List ℕ → State → State → List ℕ → Type 0
 IsLineServed g line old new out =
     ((r : Request) × Requests line r × IsServedBy g r old new out)
     ⊎ (((r : Request) → Requests line r → ⊥) × (new ≡ old) × (out ≡ codes "bad" ++ 10 ∷ []))
 
--- what a line does; nothing where it is empty
+-- what a line does; an empty one does nothing
 abbrev pub IsAnswered : Option Served → List ℕ → State → State → List ℕ → Type 0
 IsAnswered g [] old new out = (new ≡ old) × (out ≡ [])
 IsAnswered g (c ∷ cs) old new out = IsLineServed g (c ∷ cs) old new out
@@ -46,7 +46,7 @@ AreFlagAnswers g state [] out = out ≡ []
 AreFlagAnswers g state (line ∷ lines) out = (next : State) × (first : List ℕ) × (rest : List ℕ) × IsAnswered g line state next first
     × AreFlagAnswers g next lines rest × (out ≡ first ++ rest)
 
--- the values at the beginning; none where there is no group
+-- the values at the beginning; there are none if there is no group
 abbrev pub initial_of : Option Served → State
 initial_of None = []
 initial_of (Some g) = initial g

@@ -1,4 +1,4 @@
--- The values that `Flags` holds, as contracts see them.
+-- The values of a `Flags`, as contracts see them.
 use Rattle.std.specs.Prelude.{◌≡◌, ◌↔◌, ◌<◌, ◌≤◌, ℕ, false, List, [], length, slice_get, Option, Some, Result, Ok, Err}
 use Rattle.std.specs.Option.{option_map, option_map_or}
 use Rattle.meta_setting_tables.specs.declared.descriptor.Descriptor.{Descriptor}
@@ -26,7 +26,7 @@ pub record FlagContents : Type 0 where
   pub group : GroupContents
   pub state : State
 
--- the first so many of the entries are the settings, and the others are presets
+-- the first n entries are the settings, and the others are presets
 abbrev pub AreSettings : List Descriptor → ℕ → Type 0
 AreSettings entries count = (e : ℕ) (d : Descriptor) → slice_get entries e ≡ Some d → ((is_preset d.detail ≡ false) ↔ (e < count))
 
@@ -35,13 +35,13 @@ abbrev pub AreOfKinds : GroupContents → State → Type 0
 AreOfKinds t state = (e : ℕ) (d : Descriptor) (v : SettingValue) → slice_get t.descriptors e ≡ Some d → slice_get state e ≡ Some v
     → CanHave (kind_in t d.offset d.detail) v
 
--- there is one value a setting, in order, and each is one that its setting can have
+-- there is one value for each setting, in order, and each is one that its setting can have
 pub record AreHeld (f : FlagContents) : Type 0 where
   pub within : length f.state ≤ length f.group.descriptors
   pub settings : AreSettings f.group.descriptors (length f.state)
   pub kinds : AreOfKinds f.group f.state
 
--- what is served where there may be no group, and the values, of which there are none then
+-- what is served, and the values; if there is no group, nothing is served, and there are no values
 abbrev pub served_by : Option FlagContents → Option Served
 served_by o = option_map (λ (f : FlagContents). served_in f.group) o
 

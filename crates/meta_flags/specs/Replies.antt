@@ -5,7 +5,7 @@ use Rattle.meta_flags.specs.Toml.{setting_value_text}
 use Rattle.meta_flags.specs.declared.flag_error.FlagError.{FlagError}
 use Rattle.meta_flags.specs.declared.flag_error.FlagError.TheVariants.{Unknown, Kind, Value}
 
--- an error as it is answered
+-- the word for an error
 abbrev pub error_text : FlagError → List ℕ
 error_text Unknown = codes "unknown"
 error_text Kind = codes "kind"

@@ -7,8 +7,8 @@ use Rattle.meta_flags.specs.declared.request.RequestWord.TheVariants as command
 use Rattle.meta_flags.specs.declared.request.Request as code
 use Rattle.meta_flags.specs.declared.request.Request.TheVariants as asked
 
--- that the setting of a name gets the value that is written; that the boolean or the preset of a name is enabled; what the setting of a
--- name is; or all values as text
+-- what a line asks: that the setting of a name gets the value that is written; that the boolean or the preset of a name is enabled; what
+-- the setting of a name is; or all values as text
 pub data Request : Type 0 where
   Set : List ℕ → List ℕ → Request
   Enable : List ℕ → Request

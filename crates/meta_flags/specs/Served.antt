@@ -1,4 +1,4 @@
--- What a service of settings serves, and the values that it holds.
+-- What a service of settings serves, and its values.
 --     served_in t      what it serves by the tables of a group
 --     served_of g      what it serves by the layout of a declared group
 --     initial g        the values at the beginning: the declared defaults
@@ -45,7 +45,7 @@ State = List SettingValue
 
 -- ---- the values at the beginning
 
--- the default of an entry, which a preset hasn't; that of an enum is its first value
+-- the default of an entry; a preset has none, and that of an enum is its first value
 abbrev pub default_of : EntryKind → List SettingValue
 default_of (BoolKind default) = BoolValue default ∷ []
 default_of (NumKind default) = NumValue default ∷ []
@@ -77,7 +77,7 @@ served_of g = record { name = g.name; entries = map served_setting g.settings ++
 
 -- ---- by the tables of a group
 
--- those of the entries that are settings
+-- the entries that are settings
 abbrev pub settings_in : List Descriptor → List Descriptor
 settings_in entries = filter (λ (d : Descriptor). not (is_preset d.detail)) entries
 

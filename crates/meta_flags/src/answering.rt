@@ -25,7 +25,6 @@ fn push_outcome(out: &mut String, outcome: Result<(), FlagError>) -> Result<(), 
     write!(out, "{text}\n")
 }
 
-/// Adds a value as it is written by itself.
 fn push_value(out: &mut String, value: FlagValue<'_>) -> Result<(), AllocError>
     ensures { OnOk result (string_bytes out.new ≡ string_bytes out.old ++ setting_value_text (value_of value.entry)) }
 {
@@ -36,7 +35,7 @@ fn push_value(out: &mut String, value: FlagValue<'_>) -> Result<(), AllocError>
     }
 }
 
-/// Adds the line that tells a value.
+/// Adds the line with a value, or with the error.
 fn push_got(out: &mut String, outcome: Result<FlagValue<'_>, FlagError>) -> Result<(), AllocError>
     ensures { OnOk result (string_bytes out.new ≡ string_bytes out.old ++ got_line (got outcome.entry)) }
 {
@@ -65,7 +64,7 @@ fn push_served(
     }
 }
 
-/// Adds the lines that answer what is asked where there is no group: no entry has a name, and there is no value.
+/// Adds the lines that answer what is asked if there is no group: no entry has a name, and there is no value.
 fn push_unserved(out: &mut String, request: Request<'_>) -> Result<(), AllocError>
     ensures { OnOk result (string_bytes out.new ≡ string_bytes out.old ++ none_text (request_of request.entry)) }
 {

@@ -3,16 +3,16 @@ ghost use Rattle.meta_flags.specs.Replies.{error_text};
 
 use thiserror::Error;
 
-/// Why a setting isn't set, enabled or told (this project's own).
+/// Why a setting can't be set or enabled, or has no value to get.
 #[derive(Clone, Copy, Debug, Drop, PartialEq, Eq, Error)]
 pub enum FlagError {
     /// No entry has the name.
     #[error("Unknown")]
     Unknown,
-    /// The entry of the name is of a kind with which this can't be done.
+    /// The entry of the name is of a kind for which this can't be done.
     #[error("Kind")]
     Kind,
-    /// It is no value of the setting.
+    /// The text writes no value of the setting.
     #[error("Value")]
     Value,
 }

@@ -14,8 +14,7 @@ use meta_setting_tables::{Detail, GroupTables};
 use std::alloc::{AllocError, Global};
 use std::marker::Model;
 
-/// The values of the settings of a group of tables, in order of the entries (this project's own). They begin with the declared
-/// defaults.
+/// The values of the settings of a group of tables, in order of the entries. They begin with the declared defaults.
 #[derive(Drop)]
 pub struct Flags<'t> {
     group: &'t GroupTables,
@@ -34,7 +33,7 @@ impl<'t> Model for Flags<'t> {
 }
 
 impl<'t> Flags<'t> {
-    /// The values of the group, as they are by default. The only error is want of memory.
+    /// Makes the values of the group, each with its default.
     pub fn of(alloc: Global, group: &'t GroupTables) -> Result<Flags<'t>, AllocError>
         ensures state { IfOk result (λ f. f.state ≡ initial (served_in group.now)) }
         ensures group { IfOk result (λ f. f.group ≡ group.now) }
@@ -49,12 +48,12 @@ impl<'t> Flags<'t> {
         Ok(Flags { group, values })
     }
 
-    /// Gives the setting of the name the value that is written: `true` or `false` for a boolean, a decimal number up to 255 without
-    /// zeros before it for a number, or one of the values of an enum. It takes no memory, and costs the look-up of the name, and for an
+    /// Gives the setting of this name the value that is written: `true` or `false` for a boolean, a decimal number from 0 to 255 without
+    /// leading zeros for a number, or one of the values of an enum. It takes no memory. The cost is the look-up of the name, and for an
     /// enum one pass over its values.
     ///
-    /// `Unknown` comes exactly where no entry has the name, `Kind` exactly where it is a preset's, and `Value` exactly where none of the
-    /// setting's values is written so; then nothing changes.
+    /// The error is `Unknown` exactly if no entry has the name, `Kind` exactly if it is a preset's, and `Value` exactly if the text writes
+    /// no value of the setting. After an error nothing has changed.
     pub fn set(&mut self, name: &[u8], value: &[u8]) -> Result<(), FlagError>
         ensures set { Sets (served_in self.old.group) name.now value.now self.old.state result self.new.state }
         ensures group { self.new.group ≡ self.old.group }
@@ -75,10 +74,11 @@ impl<'t> Flags<'t> {
         Ok(())
     }
 
-    /// Makes the boolean of the name true, or each boolean that the preset of the name turns on, by itself or by the presets that it
-    /// names. It takes no memory, and costs the look-up of the name, and for a preset one pass over the settings.
+    /// Makes the boolean of this name true, or each boolean that the preset of this name turns on, by itself or by the presets that it
+    /// names. It takes no memory. The cost is the look-up of the name, and for a preset one pass over the settings.
     ///
-    /// `Unknown` comes exactly where no entry has the name, and `Kind` exactly where it is a number's or an enum's; then nothing changes.
+    /// The error is `Unknown` exactly if no entry has the name, and `Kind` exactly if it is a number's or an enum's. After an error nothing
+    /// has changed.
     pub fn enable(&mut self, name: &[u8]) -> Result<(), FlagError>
         ensures enabled { Enables (served_in self.old.group) name.now self.old.state result self.new.state }
         ensures group { self.new.group ≡ self.old.group }
@@ -116,9 +116,9 @@ impl<'t> Flags<'t> {
         turn_on(&mut self.values, &self.group.descriptors()[..count], masks);
     }
 
-    /// The value of the setting of the name. It takes no memory, and costs the look-up of the name.
+    /// The value of the setting of this name. It takes no memory. The cost is the look-up of the name.
     ///
-    /// `Unknown` comes exactly where no entry has the name, and `Kind` exactly where it is a preset's.
+    /// The error is `Unknown` exactly if no entry has the name, and `Kind` exactly if it is a preset's.
     pub fn get(&self, name: &[u8]) -> Result<FlagValue<'t>, FlagError>
         ensures { Gets (served_in self.now.group) name.now self.now.state (got result) }
     {
@@ -131,8 +131,8 @@ impl<'t> Flags<'t> {
         }
     }
 
-    /// Adds all values as text: `[GROUP]`, and for each setting in order of the entries `NAME = true`, `NAME = 12` or `NAME = "speed"`,
-    /// each a line.
+    /// Adds all values as text: `[GROUP]`, and for each setting, in order of the entries, a line `NAME = true`, `NAME = 12` or `NAME =
+    /// "speed"`.
     pub(crate) fn push_toml(&self, out: &mut String) -> Result<(), AllocError>
         ensures { OnOk result (string_bytes out.new ≡ string_bytes out.old ++ toml_text (served_in self.now.group) self.now.state) }
     {

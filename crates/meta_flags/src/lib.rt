@@ -1,7 +1,7 @@
 //! A service of settings: the values of the settings of a group, by their names.
 //!
-//! `Flags` holds the values of a group of tables, from their defaults on: it sets and gets a value by the name of its setting, turns on
-//! what a preset turns on, and writes all values as TOML. `flags` answers the lines of an input by the first group of declarations.
+//! `Flags` has the values of a group of tables, from their defaults on. It sets and gets a value by the name of its setting, turns on what
+//! a preset turns on, and writes all values as TOML. `flags` answers the lines of an input by the first group of declarations.
 #![tactic(auto)]
 
 mod answering;

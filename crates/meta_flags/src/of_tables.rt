@@ -7,8 +7,8 @@ use meta_gen::Tables;
 use std::alloc::{AllocError, Global};
 
 impl<'t> Flags<'t> {
-    /// The values of the group of the tables with this number, from 0, as they are by default, and `None` exactly where there is no such
-    /// group. The only error is want of memory.
+    /// Makes the values of the group with this number, from 0, each with its default. It is `None` exactly if the tables have no such
+    /// group.
     pub fn new(
         alloc: Global,
         tables: &'t Tables,

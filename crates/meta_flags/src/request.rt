@@ -5,7 +5,7 @@ ghost use Rattle.meta_flags.specs.declared.request.RequestWord as declared;
 
 use meta_words::Pieces;
 
-/// What a line asks of the service (this project's own).
+/// What a line asks of the service.
 #[derive(Clone, Copy)]
 pub(crate) enum Request<'l> {
     /// `set NAME VALUE`: that the setting gets the value.
@@ -27,7 +27,6 @@ enum RequestWord {
     Toml,
 }
 
-/// The command that the word is.
 fn command_of(word: &[u8]) -> Option<RequestWord>
     ensures some { IfSome result (λ c. word.now ≡ command_word c) }
     ensures none { IfNone result ((c : declared.RequestWord) → word.now ≢ command_word c) }
@@ -47,7 +46,7 @@ fn command_of(word: &[u8]) -> Option<RequestWord>
     None
 }
 
-/// What a command asks with the words behind it, which are taken.
+/// What a command asks with the words after it, which are taken.
 fn request_in<'l>(command: RequestWord, words: &mut Pieces<'l>) -> Option<Request<'l>>
     ensures taken { IfSome result (λ r. command_word command ∷ words.old ≡ request_words (request_of r) ++ words.new) }
     ensures some { IfSome result (λ r. All (λ word. 0 < length word) (request_words (request_of r))) }
@@ -73,7 +72,7 @@ fn request_in<'l>(command: RequestWord, words: &mut Pieces<'l>) -> Option<Reques
 }
 
 impl<'l> Request<'l> {
-    /// What the line asks, and `None` exactly where it asks nothing.
+    /// What the line asks. It is `None` exactly if it asks nothing.
     pub(crate) fn parse(line: &'l [u8]) -> Option<Request<'l>>
         ensures some { IfSome result (λ r. Requests line.now (request_of r)) }
         ensures none { IfNone result ((r : spec.Request) → ¬ Requests line.now r) }

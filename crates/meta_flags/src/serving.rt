@@ -11,7 +11,7 @@ use meta_text::{Sink, Source};
 use meta_types::Text;
 use std::alloc::{AllocError, Global};
 
-/// Answers the lines of an input by the first group of declarations, as `flags` does (this project's own).
+/// The answerer of `flags`: it answers the lines of an input by the first group of declarations.
 #[derive(Clone, Copy)]
 pub struct Service;
 
@@ -29,7 +29,6 @@ impl Answerer for Service {
         true
     }
 
-    /// The answers to the lines of the input.
     fn answer(&self, alloc: Global, built: &Built<'_>, input: &[u8]) -> Result<Answer, AllocError> {
         tables_serve_what_is_declared();
         let tables = tables_of(alloc, built)?;
@@ -58,20 +57,20 @@ fn run_words<S: Source, K: Sink>(
     run_answerer(alloc, &Service, declarations, source, sink)
 }
 
-/// Answers the lines of the source by the first group of settings of declarations, each from the values that the line before it left,
-/// and the first from the declared defaults (this project's own). There are no words. A line is one of these:
+/// Answers the lines of the source by the first group of settings of declarations. Each line is answered from the values that the line
+/// before it left, and the first from the declared defaults. There must be no words. A line is one of these:
 ///
-/// - `set NAME VALUE` gives the setting the value, and is answered `ok`; or `unknown` where no entry has the name, `kind` where it is a
-///   preset's, and `value` where none of the setting's values is written so;
-/// - `enable NAME` makes the boolean true, or each that the preset turns on, and is answered `ok`; or `unknown`, and `kind` where it is a
+/// - `set NAME VALUE` gives the setting the value, and the answer is `ok`; or `unknown` if no entry has the name, `kind` if it is a
+///   preset's, and `value` if VALUE is no value of the setting;
+/// - `enable NAME` makes the boolean true, or each that the preset turns on, and the answer is `ok`; or `unknown`, and `kind` if it is a
 ///   number's or an enum's;
-/// - `get NAME` is answered by the value; or `unknown`, and `kind` where it is a preset's;
-/// - `toml` is answered as `Flags::toml` has it, by no line where there is no group.
+/// - `get NAME` is answered by the value; or by `unknown`, and `kind` if it is a preset's;
+/// - `toml` is answered by the text of `Flags::toml`, and by no line if there is no group.
 ///
-/// Any other line is answered `bad`, and an empty one isn't answered. An answer other than `ok` leaves the values as they were.
+/// Any other line is answered by `bad`, and an empty one isn't answered. After an answer other than `ok` the values are as before.
 ///
-/// The order is: the words; the declarations, which are refused by the first fault that they show; the whole input; all answers, in
-/// memory; the writes. The status says how it ended, and `OutOfMemory` may come in any case but `Usage`.
+/// The order is: the words; the declarations, which are refused by their first fault if they have one; the whole input; all answers, in
+/// memory; the writes. The answer of the call says how the run ended, and `OutOfMemory` may come in any case but `Usage`.
 pub fn flags<S: Source, K: Sink>(
     alloc: Global,
     words: &[Text],
@@ -79,12 +78,12 @@ pub fn flags<S: Source, K: Sink>(
     source: &mut S,
     sink: &mut K,
 ) -> Ending
-    // The lines get their answers over valid declarations.
+    // Over valid declarations the lines get their answers.
     ensures headline { words.now ≡ [] → WritesOutput S.left S.faults K.taken K.faults declarations.now source.old
         source.new sink.old sink.new true IsFlagsOutput result }
 
-    // What was read and written, by how it ended, and what is done where nothing fails: each field is a fact of the call. It rejects
-    // nothing.
+    // What was read and written, by how the run ended, and what is done where nothing fails. Each field is a fact of the call. No input is
+    // rejected.
     ensures runs { RunsWordless S.left S.faults K.taken K.faults declarations.now source.old source.new sink.old sink.new
         words.now (never_rejecting IsFlagsOutput) result }
     ensures never_rejected { result ≢ Ending.Rejected }

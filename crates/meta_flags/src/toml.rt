@@ -30,8 +30,7 @@ pub(crate) fn push_line(
 }
 
 impl<'t> Flags<'t> {
-    /// All values as text: `[GROUP]`, and for each setting in order of the entries `NAME = true`, `NAME = 12` or `NAME = "speed"`, each a
-    /// line. The only error is want of memory.
+    /// All values as text: `[GROUP]`, and for each setting, in order of the entries, a line `NAME = true`, `NAME = 12` or `NAME = "speed"`.
     pub fn toml(&self, alloc: Global) -> Result<String, AllocError>
         ensures { IfOk result (λ text. string_bytes text ≡ toml_text (served_in self.now.group) self.now.state) }
     {
@@ -40,10 +39,10 @@ impl<'t> Flags<'t> {
         Ok(out)
     }
 
-    /// Writes all values to the sink, as `toml` has them.
+    /// Writes all values to the sink, as the text of `toml`.
     ///
-    /// `OutOfMemory` comes before anything is written. After `WriteFault`, which comes only where a write failed, the sink took a
-    /// front of the text.
+    /// `OutOfMemory` comes before anything is written. `WriteFault` comes only where a write failed; the sink has then taken a front of the
+    /// text.
     pub fn write_toml<K: Sink>(&self, alloc: Global, sink: &mut K) -> Result<(), WriteError>
         ensures ok { OnOk result (K.taken sink.new ≡ with_more (K.taken sink.old) (toml_text (served_in self.now.group) self.now.state)) }
         ensures in_part { IsErrOf result WriteError.WriteFault

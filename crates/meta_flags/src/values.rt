@@ -11,7 +11,7 @@ use meta_setting_tables::{Descriptor, Detail, GroupTables};
 use meta_types::Text;
 use meta_words::number_u8;
 
-/// What an entry of a group is by default, and `None` for a preset.
+/// The default of an entry of a group. It is `None` for a preset.
 pub(crate) fn default_of<'t>(
     group: &'t GroupTables,
     index: u16,
@@ -35,7 +35,7 @@ pub(crate) fn default_of<'t>(
     }
 }
 
-/// The truth value that a word writes.
+/// The truth value that a word writes, if it writes one.
 fn truth_in(word: &[u8]) -> Option<bool>
     ensures some { IfSome result (λ b. (d : Bool) → IsText (BoolKind d) word.now (BoolValue b)) }
     ensures none { IfNone result ((d : Bool) (v : SettingValue) → ¬ IsText (BoolKind d) word.now v) }
@@ -49,7 +49,7 @@ fn truth_in(word: &[u8]) -> Option<bool>
     None
 }
 
-/// The first of the texts that is this one.
+/// The first of the texts that is equal to this one.
 fn named<'t>(texts: &'t [Text], name: &[u8]) -> Option<&'t Text>
     ensures some { IfSome result (λ text. (text.now ≡ name.now) × Contains texts.now name.now) }
     ensures none { IfNone result (¬ Contains texts.now name.now) }
@@ -62,7 +62,7 @@ fn named<'t>(texts: &'t [Text], name: &[u8]) -> Option<&'t Text>
     None
 }
 
-/// The value of an entry of a group that a word writes.
+/// The value of an entry of a group that a word writes, if it writes one.
 pub(crate) fn value_in<'t>(
     group: &'t GroupTables,
     index: u16,
@@ -90,7 +90,7 @@ pub(crate) fn value_in<'t>(
     }
 }
 
-/// Makes those of the values true whose entries are booleans that are on in the setting bytes.
+/// Makes those values true whose entries are booleans that are on in the setting bytes.
 pub(crate) fn turn_on(values: &mut [FlagValue<'_>], entries: &[Descriptor], bytes: &[u8])
     requires { length values.old ≡ length entries.now }
     ensures { map value_of values.new ≡ with_marked_true (map (λ d. is_on bytes.now d.offset d.detail) entries.now)

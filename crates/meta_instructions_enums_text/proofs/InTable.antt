@@ -10,7 +10,7 @@ use Rattle.meta_declared.specs.BuiltInstructions.{AreInstructionsOf}
 use Rattle.meta_declared.specs.FormatsByName.{AreFormatsByName}
 use Rattle.meta_instructions_enums_text.specs.OpcodesText.{HaveFormats}
 
--- that of each instruction
+-- the format of each instruction is of the table
 pub have_formats : (d : InstructionSet) (cs : List BuiltInstruction) → AreInstructionsOf d cs
     → AreOfRegistries d.vars d.formats d.instructions → HaveFormats d.formats cs
 have_formats d cs are fits k c at =
@@ -18,7 +18,7 @@ have_formats d cs are fits k c at =
     let same : c.format ≡ built.builder.format = ap (λ (x : BuiltInstruction). x.format) built.is.content in
     subst (λ n. n < length d.formats) (sym same) (fits k built.builder built.at).format
 
--- that of the first one, and those of the others
+-- the format of the first instruction is of the table, and so are those of the others
 pub first_has : (formats : List InstructionFormat) (cs rest : List BuiltInstruction) (c : BuiltInstruction)
     → cs ≡ c ∷ rest → HaveFormats formats cs → c.format < length formats
 first_has formats cs rest c are have = have 0 c (ap (λ xs. slice_get xs 0) are)
@@ -27,7 +27,7 @@ pub later_have : (formats : List InstructionFormat) (cs rest : List BuiltInstruc
     → cs ≡ c ∷ rest → HaveFormats formats cs → HaveFormats formats rest
 later_have formats cs rest c are have = λ k x at. have (suc k) x (ap (λ xs. slice_get xs (suc k)) are ∙ at)
 
--- each one in use
+-- each format in use is of the table
 pub used_within : (d : InstructionSet) (ids : List ℕ) → AreFormatsByName d ids
     → AreOfRegistries d.vars d.formats d.instructions → (k f : ℕ) → slice_get ids k ≡ Some f → f < length d.formats
 used_within d ids are fits k f at =
@@ -38,7 +38,7 @@ used_within d ids are fits k f at =
 pub left_there : {X : Type 0} (xs : List X) (i : ℕ) (x : X) → i < length xs → x ≡ get_or xs i x → drop i xs ≡ x ∷ drop (i + 1) xs
 left_there xs i x inside read = drop-cons xs i x inside ∙ ap₂ (λ y ys. y ∷ ys) (sym read) (ap (λ k. drop k xs) (sym (add-one i)))
 
--- one more is found
+-- one more format is found
 pub one_found : {X : Type 0} (find : ℕ → Option X) (old new : List (Bor X)) (found : Bor X) (id : ℕ)
     (left rest : List ℕ) (whole : List X) → left ≡ id ∷ rest → find id ≡ Some found.now → new ≡ old ++ found ∷ []
     → map (λ (b : Bor X). b.now) old ++ filter_map find left ≡ whole → map (λ (b : Bor X). b.now) new ++ filter_map find rest ≡ whole

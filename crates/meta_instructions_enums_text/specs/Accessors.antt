@@ -1,6 +1,6 @@
--- The methods of `Opcode` that tell the marks of instructions.
+-- The methods of `Opcode` for the marks of instructions.
 --     has_mark mark m             whether the mark is one of these
---     accessor_text mark cs       the method that tells which of the instructions have the mark
+--     accessor_text mark cs       the method that says which of the instructions have the mark
 use Rattle.std.specs.Prelude.{ℕ, Bool, List, [], ◌∷◌, ◌++◌, if◌then◌else◌, codes}
 use Rattle.std.specs.List.{flat_map}
 use Rattle.meta_text.specs.Lines.{at, empty_line, lines_onto, text_of}
@@ -11,7 +11,7 @@ use Rattle.meta_instructions_enums_text.specs.declared.accessors.Mark.TheVariant
 use Rattle.meta_instructions_enums_text.specs.declared.accessors.Mark.TheVariants.{CanStore, CanTrap, OtherSideEffects}
 use Rattle.meta_instructions_enums_text.specs.declared.accessors.Mark.TheVariants.{SideEffectsIdempotent}
 
--- the marks that are told, in order
+-- the marks that have a method, in order
 abbrev pub told_marks : List Mark
 told_marks = IsTerminator ∷ IsBranch ∷ IsCall ∷ IsReturn ∷ CanLoad ∷ CanStore ∷ CanTrap ∷ OtherSideEffects ∷ SideEffectsIdempotent ∷ []
 
@@ -39,7 +39,7 @@ mark_name CanTrap = codes "can_trap"
 mark_name OtherSideEffects = codes "other_side_effects"
 mark_name SideEffectsIdempotent = codes "side_effects_idempotent"
 
--- its documentation
+-- the documentation of the method
 abbrev pub mark_doc : Mark → List ℕ
 mark_doc IsTerminator = codes "True for instructions that terminate the block"
 mark_doc IsBranch = codes "True for all branch or jump instructions."
@@ -51,11 +51,11 @@ mark_doc CanTrap = codes "Can this instruction cause a trap?"
 mark_doc OtherSideEffects = codes "Does this instruction have other side effects besides can_* flags?"
 mark_doc SideEffectsIdempotent = codes "Despite having side effects, is this instruction okay to GVN?"
 
--- the arm of an instruction, where it has the mark
+-- the arm of an instruction, if it has the mark
 unfoldable pub mark_arm : Mark → BuiltInstruction → List ℕ
 mark_arm mark c = if has_mark mark c.marks then text_of (at 3 (codes "Self::" ∷ c.camel_name ∷ codes " => true," ∷ []) ∷ []) else []
 
--- the method that tells which of the instructions have the mark
+-- the method that says which of the instructions have the mark
 unfoldable pub accessor_text : Mark → List BuiltInstruction → List ℕ
 accessor_text mark cs =
     lines_onto (

@@ -10,7 +10,7 @@ use Rattle.meta_operands.specs.declared.format.InstructionFormat.{InstructionFor
 use Rattle.meta_declared.specs.BuiltDeclarations.{BuiltDeclarations}
 use Rattle.meta_instructions_enums_text.specs.InUse.{formats_in}
 
--- the member that holds so many values: a value list, if there is one; else an array, or one value alone
+-- the member for this count of values: a value list, if there is one; else an array, or one value alone
 unfoldable pub values_text : Bool → ℕ → List ℕ
 values_text has_list count =
     if has_list then text_of (at 2 (codes "args: ValueList," ∷ []) ∷ [])
@@ -18,18 +18,18 @@ values_text has_list count =
     else (if count == 1 then text_of (at 2 (codes "arg: Value," ∷ []) ∷ [])
     else text_of (at 2 (codes "args: [Value; " ∷ decimal count ∷ codes "]," ∷ []) ∷ [])))
 
--- the member that holds so many blocks: an array, or one block alone
+-- the member for this count of blocks: an array, or one block alone
 unfoldable pub blocks_text : ℕ → List ℕ
 blocks_text count =
     if count == 0 then []
     else (if count == 1 then text_of (at 2 (codes "destination: ir::BlockCall," ∷ []) ∷ [])
     else text_of (at 2 (codes "blocks: [ir::BlockCall; " ∷ decimal count ∷ codes "]," ∷ []) ∷ []))
 
--- the member that holds a block without arguments, where there is one
+-- the member for a block without arguments, if there is one
 unfoldable pub raw_blocks_text : ℕ → List ℕ
 raw_blocks_text count = if count == 0 then [] else text_of (at 2 (codes "block: ir::Block," ∷ []) ∷ [])
 
--- the member that is a field of the format
+-- the member for a field of the format
 unfoldable pub field_line : FormatField → List ℕ
 field_line field = text_of (at 2 (field.member ∷ codes ": " ∷ field.kind.rust_type ∷ codes "," ∷ []) ∷ [])
 
@@ -46,8 +46,8 @@ variant_text f =
     lines_onto (at 1 (f.name ∷ codes " {" ∷ []) ∷ at 2 (codes "opcode: Opcode," ∷ []) ∷ [])
     (members_text f ++ text_of (at 1 (codes "}" ∷ []) ∷ at 1 (codes "," ∷ []) ∷ []))
 
--- The text of the data of instructions, by the names of the formats in use. It ends with an empty line: that which parts the enum
--- from its implementation.
+-- The text of the data of instructions, by the names of the formats in use. It ends with an empty line, which separates the enum from its
+-- implementation.
 unfoldable pub data_text : BuiltDeclarations → List ℕ
 data_text b =
     lines_onto (

@@ -1,6 +1,6 @@
--- The text of the formats in use: the enum `InstructionFormat`, and how it is told from the data of an instruction.
+-- The text of the formats in use: the enum `InstructionFormat`, and how the data of an instruction gives its format.
 --     entry_text f           a format in the enum
---     told_arm f             the arm that tells it
+--     told_arm f             the arm that gives it
 --     formats_text b         the text
 use Rattle.std.specs.Prelude.{ℕ, List, [], ◌∷◌, ◌++◌, codes}
 use Rattle.std.specs.List.{flat_map}
@@ -14,7 +14,7 @@ use Rattle.meta_instructions_enums_text.specs.InUse.{formats_in}
 unfoldable pub entry_text : InstructionFormat → List ℕ
 entry_text f = text_of (at 1 (codes "/// " ∷ format_text f ∷ []) ∷ at 1 (f.name ∷ codes "," ∷ []) ∷ [])
 
--- the arm that tells it
+-- the arm that gives the format
 unfoldable pub told_arm : InstructionFormat → List ℕ
 told_arm f = text_of (at 3 (codes "InstructionData::" ∷ f.name ∷ codes " { .. } => Self::" ∷ f.name ∷ codes "," ∷ []) ∷ [])
 

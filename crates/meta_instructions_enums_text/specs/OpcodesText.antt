@@ -13,7 +13,7 @@ use Rattle.meta_instructions_enums_text.specs.Accessors.{accessors_text}
 abbrev pub HaveFormats : List InstructionFormat → List BuiltInstruction → Type 0
 HaveFormats formats cs = (k : ℕ) (c : BuiltInstruction) → slice_get cs k ≡ Some c → c.format < length formats
 
--- the type of integers that holds the numbers of so many opcodes, which begin with 1
+-- the integer type that holds the numbers of this count of opcodes, from 1
 abbrev pub number_type : ℕ → List ℕ
 number_type count = if nat_lt 255 count then codes "u16" else codes "u8"
 
@@ -22,8 +22,8 @@ abbrev pub each_opcode : List InstructionFormat → List BuiltInstruction → Li
 each_opcode formats [] = []
 each_opcode formats (c ∷ cs) = opcode_text formats (codes " = 1") c ++ flat_map (opcode_text formats []) cs
 
--- the text of these instructions, whose formats are of the table, and whose numbers have this type: the enum, its methods, of which
--- the last lists all opcodes, and the function that tells the names
+-- the text of these instructions, whose formats are of the table, and whose numbers have this type: the enum, its methods, of which the
+-- last lists all opcodes, and the function that gives the names
 unfoldable pub opcodes_part : List ℕ → List InstructionFormat → List BuiltInstruction → List ℕ
 opcodes_part repr formats cs =
     lines_onto (

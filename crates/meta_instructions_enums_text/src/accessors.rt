@@ -6,7 +6,7 @@ use meta_inst::InstructionContent;
 use meta_rust_lines::fill;
 use std::alloc::{AllocError, Global};
 
-/// A mark of instructions that a method of `Opcode` tells.
+/// A mark of instructions for which `Opcode` has a method.
 #[derive(Clone, Copy)]
 enum Mark {
     IsTerminator,
@@ -33,7 +33,7 @@ const TOLD_MARKS: [Mark; 9] = [
     Mark::SideEffectsIdempotent,
 ];
 
-/// The method that tells a mark.
+/// The method for a mark.
 const ACCESSOR: &str = "    /// $doc$
     pub fn $name$(self) -> bool {
         match self {
@@ -102,7 +102,7 @@ impl Mark {
     }
 }
 
-/// The arm of an instruction, where it has the mark.
+/// Adds the arm of an instruction, if it has the mark.
 #[tactic(auto, unfolding(crate::specs::Accessors::mark_arm))]
 fn push_arm(
     out: &mut String,
@@ -118,7 +118,7 @@ fn push_arm(
     Ok(())
 }
 
-/// The arms of those of the instructions that have the mark.
+/// The arms of the instructions that have the mark.
 fn arms(
     alloc: Global,
     mark: Mark,
@@ -133,7 +133,7 @@ fn arms(
     Ok(text)
 }
 
-/// Adds the method that tells which of the instructions have the mark.
+/// Adds the method that says which of the instructions have the mark.
 fn push_accessor(
     alloc: Global,
     out: &mut String,
@@ -151,7 +151,6 @@ fn push_accessor(
     )
 }
 
-/// The methods of these marks.
 fn each_accessor(
     alloc: Global,
     marks: &[Mark],
@@ -166,7 +165,7 @@ fn each_accessor(
     Ok(text)
 }
 
-/// The methods that tell the marks of the instructions.
+/// The methods for the marks of the instructions.
 #[tactic(auto, unfolding(crate::specs::Accessors::accessors_text))]
 pub(crate) fn accessors(
     alloc: Global,

@@ -28,7 +28,7 @@ $members$    }
 
 const VARIANT_HOLES: [&str; 2] = ["name", "members"];
 
-/// Adds the member that holds the values, of which there are so many beside those of a value list.
+/// Adds the member for the values: a value list, or else `count` values.
 #[tactic(auto, unfolding(crate::specs::DataText::values_text))]
 fn push_values(out: &mut String, has_list: bool, count: u32) -> Result<(), AllocError>
     ensures { OnOk result (string_bytes out.new ≡ string_bytes out.old ++ values_text has_list count) }
@@ -43,7 +43,7 @@ fn push_values(out: &mut String, has_list: bool, count: u32) -> Result<(), Alloc
     }
 }
 
-/// Adds the member that holds so many blocks.
+/// Adds the member for `count` blocks.
 #[tactic(auto, unfolding(crate::specs::DataText::blocks_text))]
 fn push_blocks(out: &mut String, count: u32) -> Result<(), AllocError>
     ensures { OnOk result (string_bytes out.new ≡ string_bytes out.old ++ blocks_text count) }
@@ -55,7 +55,7 @@ fn push_blocks(out: &mut String, count: u32) -> Result<(), AllocError>
     }
 }
 
-/// Adds the member that holds a block without arguments, where there is one.
+/// Adds the member for a block without arguments, if there is one.
 #[tactic(auto, unfolding(crate::specs::DataText::raw_blocks_text))]
 fn push_raw_blocks(out: &mut String, count: u32) -> Result<(), AllocError>
     ensures { OnOk result (string_bytes out.new ≡ string_bytes out.old ++ raw_blocks_text count) }
@@ -66,7 +66,6 @@ fn push_raw_blocks(out: &mut String, count: u32) -> Result<(), AllocError>
     }
 }
 
-/// Adds a field of a format.
 #[tactic(auto, unfolding(crate::specs::DataText::field_line))]
 fn push_field(out: &mut String, field: &FormatField) -> Result<(), AllocError>
     ensures { OnOk result (string_bytes out.new ≡ string_bytes out.old ++ field_line field.now) }
@@ -75,7 +74,6 @@ fn push_field(out: &mut String, field: &FormatField) -> Result<(), AllocError>
     write!(out, "        {name}: {rust_type},\n")
 }
 
-/// Adds the members that are fields of a format.
 fn push_fields(out: &mut String, fields: &[FormatField]) -> Result<(), AllocError>
     ensures { OnOk result (string_bytes out.new ≡ string_bytes out.old ++ flat_map field_line fields.now) }
 {
@@ -98,7 +96,6 @@ fn members(alloc: Global, format: &InstructionFormat) -> Result<String, AllocErr
     Ok(text)
 }
 
-/// The variants of the formats.
 #[tactic(auto, using(crate::proofs::Templates::variant_steps))]
 fn variants(alloc: Global, formats: &[&InstructionFormat]) -> Result<String, AllocError>
     ensures { IfOk result (λ text. string_bytes text ≡ flat_map variant_text (map (λ f. f.now) formats.now)) }
@@ -116,9 +113,9 @@ fn variants(alloc: Global, formats: &[&InstructionFormat]) -> Result<String, All
     Ok(text)
 }
 
-/// Adds the text of the data of instructions, by the names of the formats in use, with an empty line at its end
-/// (`gen_instruction_data` of `gen_inst.rs`, and the empty line that parts it from the implementation): the enum
-/// `InstructionData`. The only error is want of memory.
+/// Adds the text of the data of instructions: the enum `InstructionData`, with a variant for each format in use, by their names. The text
+/// ends with an empty line, which separates the enum from its implementation. It is that of `gen_instruction_data` of the crate's
+/// `gen_inst.rs`.
 pub fn push_data(alloc: Global, out: &mut String, built: &Built<'_>) -> Result<(), AllocError>
     ensures { OnOk result (string_bytes out.new ≡ string_bytes out.old ++ data_text built.now) }
 {

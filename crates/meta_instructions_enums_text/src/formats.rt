@@ -8,7 +8,7 @@ use meta_operands::InstructionFormat;
 use meta_rust_lines::fill;
 use std::alloc::{AllocError, Global};
 
-/// The enum of the formats, and how the format is told from the data of an instruction (`gen_formats`).
+/// The enum of the formats, and how the data of an instruction gives its format (`gen_formats`).
 const FORMATS: &str = "/// An instruction format
 #[derive(Copy, Clone, PartialEq, Eq, Debug)]
 pub enum InstructionFormat {
@@ -30,7 +30,7 @@ const ENTRY: &str = "    /// $format$\n    $name$,\n";
 
 const ENTRY_HOLES: [&str; 2] = ["format", "name"];
 
-/// The arm that tells it.
+/// The arm that gives it.
 const ARM: &str = "            InstructionData::$name$ { .. } => Self::$name$,\n";
 
 const ARM_HOLES: [&str; 1] = ["name"];
@@ -53,7 +53,7 @@ fn entries(alloc: Global, formats: &[&InstructionFormat]) -> Result<String, Allo
     Ok(text)
 }
 
-/// The arms that tell the formats.
+/// The arms that give the formats.
 #[tactic(auto, using(crate::proofs::Templates::told_steps))]
 fn told_arms(alloc: Global, formats: &[&InstructionFormat]) -> Result<String, AllocError>
     ensures { IfOk result (λ text. string_bytes text ≡ flat_map told_arm (map (λ f. f.now) formats.now)) }
@@ -65,8 +65,8 @@ fn told_arms(alloc: Global, formats: &[&InstructionFormat]) -> Result<String, Al
     Ok(text)
 }
 
-/// Adds the text of the formats in use, by their names, with an empty line at its end (`gen_formats` of `gen_inst.rs`): the enum
-/// `InstructionFormat`, and how it is told from the data of an instruction. The only error is want of memory.
+/// Adds the text of the formats in use, by their names: the enum `InstructionFormat`, and how the data of an instruction gives its format.
+/// The text ends with an empty line. It is that of `gen_formats` of the crate's `gen_inst.rs`.
 pub fn push_formats(alloc: Global, out: &mut String, built: &Built<'_>) -> Result<(), AllocError>
     ensures { OnOk result (string_bytes out.new ≡ string_bytes out.old ++ formats_text built.now) }
 {

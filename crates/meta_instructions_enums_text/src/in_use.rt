@@ -5,7 +5,7 @@ use meta_declared::Built;
 use meta_operands::InstructionFormat;
 use std::alloc::{AllocError, Global};
 
-/// The formats that the declared instructions use, sorted by their names (this project's own).
+/// The formats that the declared instructions use, sorted by their names.
 pub fn formats_in_use<'d>(
     alloc: Global,
     built: &Built<'d>,
@@ -13,7 +13,7 @@ pub fn formats_in_use<'d>(
     ensures { IfOk result (λ v. map (λ f. f.now) v.items ≡ formats_in built.now) }
 {
     let declarations = built.declarations();
-    // the instructions tell that their formats are of the table
+    // by the contract of `instructions`, their formats are of the table
     let _instructions = declarations.instructions();
     let table = declarations.formats();
     let mut formats = Vec::with_capacity(alloc, built.formats().len())?;

@@ -1,8 +1,8 @@
-//! The text of instructions as Rust source: the formats, the data of instructions, and the opcodes.
+//! The text of instructions as Rust source: the formats, the data of instructions, and the opcodes, as the crate's `gen_inst.rs` writes
+//! them.
 //!
-//! `push_formats`, `push_data` and `push_opcodes` add the texts of what is built of declarations. Each text ends with an empty
-//! line. (`gen_inst.rs`; the tables `OPCODE_FORMAT` and `OPCODE_HASH_TABLE`, which its opcodes hold too, are left to the text of
-//! tables.)
+//! `push_formats`, `push_data` and `push_opcodes` add the texts of what is built of declarations. Each text ends with an empty line. The
+//! tables `OPCODE_FORMAT` and `OPCODE_HASH_TABLE`, which the crate writes with the opcodes, are in the text of tables.
 #![tactic(auto)]
 
 mod accessors;

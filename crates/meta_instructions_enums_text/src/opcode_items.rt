@@ -9,14 +9,14 @@ use meta_operands::{FormatTable, InstructionFormat, Operand};
 use meta_rust_lines::fill;
 use std::alloc::{AllocError, Global};
 
-/// An instruction in the list of all opcodes, and the arm that tells its name.
+/// An instruction in the list of all opcodes, and the arm that gives its name.
 pub(crate) const LISTED: &str = "            Opcode::$Name$,\n";
 
 pub(crate) const NAMED: &str = "        Opcode::$Name$ => \"$name$\",\n";
 
 const NAME_HOLES: [&str; 2] = ["Name", "name"];
 
-/// The input from whose type the control of the instruction, of this format, is inferred; `None` where it isn't.
+/// The input from whose type the control of the instruction, of this format, is inferred; `None` if it isn't inferred.
 fn inferring_input<'i>(
     format: &InstructionFormat,
     instruction: &'i InstructionContent,
@@ -31,7 +31,7 @@ fn inferring_input<'i>(
     instruction.operands_in().get(*place)
 }
 
-/// The line that tells the input from which the type is inferred, where there is one.
+/// The line on the input from which the type is inferred, if there is one.
 fn inferred(alloc: Global, input: Option<&Operand>) -> Result<String, AllocError>
     ensures { IfOk result (λ text. string_bytes text ≡ inferred_line (option_copied input.entry)) }
 {
@@ -44,8 +44,8 @@ fn inferred(alloc: Global, input: Option<&Operand>) -> Result<String, AllocError
     Ok(text)
 }
 
-/// Adds an instruction that is shown so to the enum, with the name of its format, what its type is inferred from, its name, and
-/// what tells its number.
+/// Adds an instruction to the enum: how it is displayed, the name of its format, what its type is inferred from, its name, and what gives
+/// its number.
 #[tactic(auto, unfolding(crate::specs::OpcodeItems::opcode_lines))]
 fn push_lines(
     out: &mut String,
@@ -66,7 +66,7 @@ fn push_lines(
     )
 }
 
-/// Adds an instruction to the enum, with what tells its number after its name.
+/// Adds an instruction to the enum, with what gives its number after its name.
 pub(crate) fn push_opcode(
     alloc: Global,
     out: &mut String,
@@ -90,7 +90,7 @@ pub(crate) fn push_opcode(
     )
 }
 
-/// This line of each instruction, in order.
+/// This line for each instruction, in order.
 pub(crate) fn for_each_name(
     alloc: Global,
     line: &str,

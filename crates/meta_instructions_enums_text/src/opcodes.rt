@@ -11,7 +11,7 @@ use meta_operands::FormatTable;
 use meta_rust_lines::fill;
 use std::alloc::{AllocError, Global};
 
-/// The enum of the opcodes, its methods, and the function that tells the names (`gen_opcodes`).
+/// The enum of the opcodes, its methods, and the function that gives the names (`gen_opcodes`).
 const OPCODES: &str = "/// An instruction opcode.
 #[repr($type$)]
 #[derive(Copy, Clone, PartialEq, Eq, Debug, Hash)]
@@ -39,14 +39,14 @@ const OPCODES_HOLES: [&str; 5] = ["type", "opcodes", "accessors", "listed", "nam
 /// The most opcodes whose numbers, which begin with 1, a `u8` holds.
 const MAX_IN_A_BYTE: usize = 255;
 
-/// The type of integers that holds the numbers of so many opcodes.
+/// The integer type that holds the numbers of this count of opcodes.
 fn number_type(count: usize) -> &'static str
     ensures { result.now ≡ number_type count }
 {
     if count > MAX_IN_A_BYTE { "u16" } else { "u8" }
 }
 
-/// Adds the instructions, before which there is one, to the enum.
+/// Adds the instructions after the first to the enum.
 fn push_later(
     alloc: Global,
     out: &mut String,
@@ -62,7 +62,7 @@ fn push_later(
     Ok(())
 }
 
-/// The instructions in the enum, of which the first has its number.
+/// The instructions in the enum. The first has its number.
 fn each_opcode(
     alloc: Global,
     formats: &FormatTable,
@@ -109,14 +109,14 @@ fn push_part(
     )
 }
 
-/// Adds the text of the opcodes, with an empty line at its end (`gen_opcodes` of `gen_inst.rs`, without the tables
-/// `OPCODE_FORMAT` and `OPCODE_HASH_TABLE`): the enum `Opcode`, whose numbers are `u8` up to 255 instructions and `u16` past
-/// them, its methods, and the function that tells the names. The only error is want of memory.
+/// Adds the text of the opcodes: the enum `Opcode`, its methods, and the function that gives the names. The numbers of the opcodes are `u8`
+/// for at most 255 instructions, and else `u16`. The text ends with an empty line. It is that of `gen_opcodes` of the crate's
+/// `gen_inst.rs`, without the tables `OPCODE_FORMAT` and `OPCODE_HASH_TABLE`.
 pub fn push_opcodes(alloc: Global, out: &mut String, built: &Built<'_>) -> Result<(), AllocError>
     ensures { OnOk result (string_bytes out.new ≡ string_bytes out.old ++ opcodes_text built.now) }
 {
     let declarations = built.declarations();
-    // the instructions tell that their formats are of the table
+    // by the contract of `instructions`, their formats are of the table
     let _instructions = declarations.instructions();
     let instructions = built.instructions();
     push_part(

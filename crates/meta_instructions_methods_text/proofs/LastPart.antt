@@ -1,4 +1,4 @@
--- What stands behind the last `::` of a text.
+-- What stands after the last `::` of a text.
 use Rattle.std.proofs.Common.{◌≡◌, ℕ, zero, suc, ◌<◌, ◌≤◌, Bool, true, false, cond, List, [], ◌∷◌, ◌++◌, length, take, drop, codes, ap, sym}
 use Rattle.std.proofs.Common.{◌∙◌, refl, arith}
 use Rattle.std.specs.Str.Pattern.{LacksTextAt}
@@ -27,7 +27,7 @@ lacking (c ∷ cs) other lacks =
     ap (λ b. behind_last (cond b (drop 2 (c ∷ cs)) other) cs) (begins_not (c ∷ cs) (lacks 0 (omega arith)))
     ∙ lacking cs other (λ i within. lacks (suc i) (omega (arith, within)))
 
--- where the last one stands at a place, what is behind it
+-- what stands after the last `::`, by its place
 pub found : (i : ℕ) (s back other : List ℕ) → drop i s ≡ mark ++ back → ((k : ℕ) → i < k → k ≤ length s → LacksTextAt mark s k)
     → behind_last other s ≡ back
 found zero [] back other at beyond = let bad : ⊥ = omega (arith, ap length at) in absurd bad

@@ -16,16 +16,16 @@ high : (b : ℕ) (later : Bool) (rest : List ℕ) → 128 ≤ b → snake_from l
 high b true rest h = grind (arith, nat_tests)
 high b false rest h = grind (arith, nat_tests)
 
--- so do bytes past ASCII
+-- bytes past ASCII stay as they are
 stay : (bs : List ℕ) (later : Bool) (rest : List ℕ) → ArePast bs → snake_from later (bs ++ rest) ≡ bs ++ snake_from later rest
 stay [] later rest h = refl
 stay (b ∷ bs) later rest (h, hs) = high b later (bs ++ rest) h ∙ ap (◌∷◌ b) (stay bs later rest hs)
 
--- and a character past ASCII
+-- a character past ASCII stays as it is
 snake_from-high : (c : ℕ) (later : Bool) (rest : List ℕ) → 128 ≤ c → snake_from later (encode c ++ rest) ≡ encode c ++ snake_from later rest
 snake_from-high c later rest h = stay (encode c) later rest (all_past (encode c) (past_ascii c h))
 
--- a character past ASCII is neither a capital nor has a small letter
+-- no mark stands before a character past ASCII, which is no capital; and such a character is its own small letter
 none_before : (later : Bool) (c : ℕ) → 128 ≤ c → mark_before later c ≡ []
 none_before true c h = grind (arith, nat_tests)
 none_before false c h = refl
@@ -51,14 +51,14 @@ snake_from-char later c rest = ⊎_elim ascii past (cases_lt c 128)
     past l = rw (none_before later c l, small_high c l)
         (snake_from-high c later rest l ∙ ap (λ z. encode c ++ z) (none_behind later c rest l))
 
--- a character that is written as a small letter behind its mark
+-- a character that is written as a small letter after its mark
 pub snake_more : (old new mark : List ℕ) (later : Bool) (c letter : ℕ) (rest : List ℕ)
     → new ≡ old ++ (mark ++ encode letter) → mark ≡ mark_before later c → letter ≡ to_ascii_lowercase c
     → new ++ snake_from (later || is_ascii_uppercase c) rest ≡ old ++ snake_from later (encode c ++ rest)
 snake_more old new mark later c letter rest written before small =
     rw (written, before, small, append_assoc, append_assoc) (ap (λ z. old ++ z) (sym (snake_from-char later c rest)))
 
--- what is written and the snake case of what is left are the same text behind one more character
+-- after one more character, what is written and the snake case of what is left are still the same text
 pub snake_step : (old new name left rest letter : List ℕ) (later further capital : Bool) → old ++ snake_from later left ≡ name
     → left ≡ letter ++ rest
     → ((r : List ℕ) → new ++ snake_from (later || capital) r ≡ old ++ snake_from later (letter ++ r))
@@ -66,7 +66,7 @@ pub snake_step : (old new name left rest letter : List ℕ) (later further capit
 snake_step old new name left rest letter later further capital here steps written is =
     ap (λ b. new ++ snake_from b rest) is ∙ (written rest ∙ (ap (λ r. old ++ snake_from later r) (sym steps) ∙ here))
 
--- where nothing is left, all is written
+-- if nothing is left, all is written
 pub snake_end : (old name left : List ℕ) (later : Bool) → old ++ snake_from later left ≡ name → length left ≡ 0 → old ≡ name
 snake_end old name left later here none = sym (append-nil old)
     ∙ (ap (λ r. old ++ snake_from later r) (sym (nil_from_length left none)) ∙ here)

@@ -1,5 +1,5 @@
 -- The implementation of `InstructionData`, as Rust source.
---     data_impl_text fs      the methods, each a match with an arm a format; no empty line stands behind it
+--     data_impl_text fs      the methods, each a match with an arm for each format; the text doesn't end with an empty line
 use Rattle.std.specs.Prelude.{ℕ, List, [], ◌∷◌, ◌++◌, codes}
 use Rattle.std.specs.List.{flat_map}
 use Rattle.meta_operands.specs.declared.format.InstructionFormat.{InstructionFormat}

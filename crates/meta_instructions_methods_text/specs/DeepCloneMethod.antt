@@ -11,8 +11,8 @@ use Rattle.meta_instructions_methods_text.specs.Held.{values_of, blocks_of, has_
 use Rattle.meta_instructions_methods_text.specs.Members.{of_member, of_fields, further, pattern_text}
 use Rattle.meta_instructions_methods_text.specs.Rebuilt.{rebuilt_arm, kept}
 
--- the pattern of a format whose values are held so, by the texts of a member by reference and as it is: a list of values is taken by
--- reference, and other values are not
+-- the pattern of a format whose values are held in this way, by the texts of a member by reference and of one that isn't: a list of values
+-- is taken by reference, and other values are not
 abbrev pub clone_pattern : (List ℕ → List ℕ) → (List ℕ → List ℕ) → Values → InstructionFormat → List ℕ
 clone_pattern by_reference plain values.Absent f = pattern_text (codes "opcode") plain plain plain f
 clone_pattern by_reference plain values.One f = pattern_text (codes "opcode") plain plain plain f

@@ -1,5 +1,5 @@
 -- The word by which a mapper's method names the entities of a Rust type.
---     last_part path         what stands behind the last `::` of a path: `StackSlot` of `ir::StackSlot`
+--     last_part path         what stands after the last `::` of a path: `StackSlot` of `ir::StackSlot`
 --     snake_case name        `stack_slot` of `StackSlot`
 --     entity_word path       the word: `stack_slot` of `ir::StackSlot`, and `block_call` of `ir::Block` and `ir::BlockCall`
 use Rattle.std.specs.Prelude.{ℕ, ◌&&◌, ◌||◌, Bool, false, List, [], ◌∷◌, ◌++◌, take, drop, if◌then◌else◌, codes}
@@ -10,20 +10,20 @@ use Rattle.meta_operands.specs.Texts.{same_text}
 abbrev pub begins_with_mark : List ℕ → Bool
 begins_with_mark bytes = same_text (take 2 bytes) (codes "::")
 
--- what stands behind the last `::` of these bytes, and this other part where they have none
+-- what stands after the last `::` of these bytes, and the other part if they have no `::`
 abbrev pub behind_last : List ℕ → List ℕ → List ℕ
 behind_last other [] = other
 behind_last other (c ∷ cs) = behind_last (if begins_with_mark (c ∷ cs) then drop 2 (c ∷ cs) else other) cs
 
--- the last part of a path, which is the whole path where it has no `::`
+-- the last part of a path, which is the whole path if it has no `::`
 abbrev pub last_part : List ℕ → List ℕ
 last_part path = behind_last path path
 
--- what stands before a letter: a `_` where it is a capital that is not the first one
+-- what stands before a letter: a `_` before a capital, if a capital came before it
 abbrev pub mark_before : Bool → ℕ → List ℕ
 mark_before later c = if later && is_ascii_uppercase c then codes "_" else []
 
--- the letters of a name in small letters, behind a capital or not
+-- the rest of a name in small letters, after a capital or before the first, with a `_` before each capital but the first
 abbrev pub snake_from : Bool → List ℕ → List ℕ
 snake_from later [] = []
 snake_from later (c ∷ cs) = mark_before later c ++ (to_ascii_lowercase c ∷ snake_from (later || is_ascii_uppercase c) cs)
@@ -32,7 +32,7 @@ snake_from later (c ∷ cs) = mark_before later c ++ (to_ascii_lowercase c ∷ s
 abbrev pub snake_case : List ℕ → List ℕ
 snake_case name = snake_from false name
 
--- blocks are mapped with their arguments, whether they have such or not
+-- blocks are mapped with their arguments, whether they have any or not
 abbrev pub with_arguments : List ℕ → List ℕ
 with_arguments word = if same_text word (codes "block") then codes "block_call" else word
 

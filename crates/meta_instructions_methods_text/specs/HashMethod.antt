@@ -14,7 +14,7 @@ use Rattle.meta_instructions_methods_text.specs.Members.{of_member, of_fields, f
 unfoldable pub hashed : List ℕ → List ℕ
 hashed value = text_of (at 4 (codes "::core::hash::Hash::hash(&" ∷ value ∷ codes ", state);" ∷ []) ∷ [])
 
--- how many values there are is hashed, and each of them
+-- the count of the values is hashed, and then each of them
 unfoldable pub hashed_each_value : List ℕ → List ℕ → List ℕ
 hashed_each_value count args = text_of (
     at 4 (codes "::core::hash::Hash::hash(&" ∷ count ∷ codes ", state);" ∷ [])
@@ -30,7 +30,7 @@ hashed_values values.One = hashed_each_value (codes "1") (codes "core::slice::fr
 hashed_values (values.Several count) = hashed_each_value (codes "args.len()") (codes "args")
 hashed_values values.Listed = hashed_each_value (codes "args.len(pool)") (codes "args.as_slice(pool)")
 
--- how many blocks there are is hashed, and each of them with its arguments
+-- the count of the blocks is hashed, and then each of them with its arguments
 unfoldable pub hashed_each_block : List ℕ → List ℕ → List ℕ
 hashed_each_block count blocks = text_of (
     at 4 (codes "::core::hash::Hash::hash(&" ∷ count ∷ codes ", state);" ∷ [])

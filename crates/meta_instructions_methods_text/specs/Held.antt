@@ -1,6 +1,6 @@
 -- How `InstructionData` holds the operands of a format.
 --     values_of f, blocks_of f, has_raw_block f      how it holds the value inputs and the blocks
---     values_member v, blocks_member b, raw_block_member r      the members that hold them, where there are such
+--     values_member v, blocks_member b, raw_block_member r      the members that hold them, if there are any
 use Rattle.std.specs.Prelude.{ℕ, ◌==◌, Bool, true, false, not, List, Option, None, Some, if◌then◌else◌, codes}
 use Rattle.meta_operands.specs.declared.format.InstructionFormat.{InstructionFormat}
 use Rattle.meta_instructions_methods_text.specs.declared.held.Values.{Values}
@@ -8,11 +8,11 @@ use Rattle.meta_instructions_methods_text.specs.declared.held.Values.TheVariants
 use Rattle.meta_instructions_methods_text.specs.declared.held.Blocks.{Blocks}
 use Rattle.meta_instructions_methods_text.specs.declared.held.Blocks.TheVariants as blocks
 
--- so many value inputs, where no more may follow: one stands alone, and several stand in an array
+-- this count of value inputs, and no more: one stands alone, and several stand in an array
 abbrev pub fixed_values : ℕ → Values
 fixed_values count = if count == 0 then values.Absent else (if count == 1 then values.One else values.Several count)
 
--- where more values may follow, all stand in one list
+-- if more values may follow, all stand in one list
 abbrev pub values_of : InstructionFormat → Values
 values_of f = if f.has_value_list then values.Listed else fixed_values f.num_value_operands
 

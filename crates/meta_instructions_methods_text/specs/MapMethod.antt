@@ -1,5 +1,5 @@
 -- The method of `InstructionData` that maps what an instruction names.
---     mapper_method kind     the word of the mapper's method for operands of a kind, where it has one
+--     mapper_method kind     the word of the mapper's method for operands of a kind, if it has one
 --     map_arm f              the arm of a format in the method `map`
 use Rattle.std.specs.Prelude.{ℕ, zero, suc, ◌==◌, List, [], ◌∷◌, ◌++◌, Option, None, Some, if◌then◌else◌, codes}
 use Rattle.std.specs.List.{flat_map}
@@ -22,7 +22,7 @@ use Rattle.meta_instructions_methods_text.specs.Rebuilt.{rebuilt_arm, kept}
 
 -- ---- values and blocks
 
--- the mapped value at a place of the array, and a comma and a space before it where it is not the first
+-- the mapped value at a place of the array, with a comma and a space before it if it isn't the first
 unfoldable pub mapped_value : ℕ → List ℕ
 mapped_value place =
     if place == 0 then codes "mapper.map_value(args[0])"
@@ -37,7 +37,7 @@ mapped_below (suc place) = mapped_below place ++ mapped_value place
 unfoldable pub mapped : List ℕ → List ℕ → List ℕ
 mapped member word = text_of (at 5 (member ∷ codes ": mapper.map_" ∷ word ∷ codes "(" ∷ member ∷ codes ")," ∷ []) ∷ [])
 
--- the array of mapped values, which are shown so
+-- the array of mapped values, from their text
 unfoldable pub mapped_array : List ℕ → List ℕ
 mapped_array elements = text_of (at 5 (codes "args: [" ∷ elements ∷ codes "]," ∷ []) ∷ [])
 
@@ -71,7 +71,7 @@ mapper_for (TypeVar tv) rust_type = None
 abbrev pub mapper_method : OperandKind → Option (List ℕ)
 mapper_method kind = mapper_for kind.fields kind.rust_type
 
--- a member, which stays where no method of the mapper maps it
+-- a member, which stays if no method of the mapper maps it
 abbrev pub mapped_or_kept : List ℕ → Option (List ℕ) → List ℕ
 mapped_or_kept member None = kept member
 mapped_or_kept member (Some word) = mapped member word
@@ -82,7 +82,7 @@ mapped_field field = mapped_or_kept field.member (mapper_method field.kind)
 
 -- ---- the arm of a format
 
--- its values and blocks, this text of the block without arguments, and its fields
+-- the mapped members of a format: its values and blocks, this text of the block without arguments, and its fields
 abbrev pub mapped_members : (List ℕ → List ℕ) → InstructionFormat → List ℕ
 mapped_members raw_block f =
     mapped_values (values_of f)

@@ -1,6 +1,6 @@
 -- Texts of the members of a format: parts of the pattern of an arm, and lines of it.
 --     member_filled text member       a template of a member
---     of_member f member              this text of a member, where there is one
+--     of_member f member              this text of a member, if there is one
 --     of_fields f fields              this text of the member of each field
 --     pattern_text opcode values blocks others f      the pattern of a format, by the texts of its members
 use Rattle.std.specs.Prelude.{ℕ, List, [], ◌∷◌, ◌++◌, map, Option, None, Some, codes}

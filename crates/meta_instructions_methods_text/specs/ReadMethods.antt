@@ -1,6 +1,6 @@
 -- The methods of `InstructionData` that read an instruction.
---     opcode_arm name, typevar_arm name designated values      the arms that tell the opcode, and the value whose type may control
---     arguments_arm access f                                  the arm that tells the values
+--     opcode_arm name, typevar_arm name designated values      the arms that give the opcode, and the value whose type may control
+--     arguments_arm access f                                  the arm that gives the values
 use Rattle.std.specs.Prelude.{ℕ, List, [], ◌∷◌, Option, None, Some, codes}
 use Rattle.std.specs.Fmt.{decimal}
 use Rattle.meta_operands.specs.declared.format.InstructionFormat.{InstructionFormat}
@@ -18,7 +18,7 @@ opcode_arm name = text_of (at 3 (codes "Self::" ∷ name ∷ codes " { opcode, .
 
 -- ---- the operand whose type may control
 
--- where an operand is designated it is the value at its place: in a list, alone, or in an array
+-- if an operand is designated, it is the value at its place: in a list, alone, or in an array
 abbrev pub typevar_arm : List ℕ → Option ℕ → Values → List ℕ
 typevar_arm name None held = text_of (at 3 (codes "Self::" ∷ name ∷ codes " { .. } => None," ∷ []) ∷ [])
 typevar_arm name (Some place) values.Absent = text_of (at 3 (codes "Self::" ∷ name ∷ codes " { .. } => None," ∷ []) ∷ [])
@@ -38,7 +38,7 @@ typevar_arm name (Some place) values.Listed = text_of (
 
 -- ---- the values
 
--- the mark of a reference, behind `&` or `ref `
+-- the mark of a reference, after `&` or `ref `
 abbrev pub reference_mark : Access → List ℕ
 reference_mark Shared = []
 reference_mark Mutable = codes "mut "

@@ -12,7 +12,6 @@ use super::read_methods::{Access, push_arguments_arm, push_opcode_arm, push_type
 use meta_operands::InstructionFormat;
 use std::alloc::{AllocError, Global};
 
-/// Adds the arm of a format in a method.
 fn push_arm(
     alloc: Global,
     out: &mut String,

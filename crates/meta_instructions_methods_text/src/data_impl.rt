@@ -37,7 +37,7 @@ $arguments_mut$        }
 
 const READING_HOLES: [&str; 4] = ["opcode", "typevar_operand", "arguments", "arguments_mut"];
 
-/// The methods that take an instruction as a whole. Instructions of different formats differ, so `eq` has no further pair.
+/// The methods that take an instruction as a whole. Instructions of different formats differ, so `eq` needs no other arm for a pair.
 const WHOLE: &str = "    /// Compare two `InstructionData` for equality.
     pub fn eq(&self, other: &Self, pool: &ir::ValueListPool) -> bool {
         if ::core::mem::discriminant(self) != ::core::mem::discriminant(other) {
@@ -69,7 +69,6 @@ $map$        }
 
 const WHOLE_HOLES: [&str; 4] = ["eq", "hash", "deep_clone", "map"];
 
-/// Adds the methods that read an instruction.
 fn push_reading_methods(
     alloc: Global,
     out: &mut String,
@@ -119,11 +118,11 @@ fn push_whole_methods(
     )
 }
 
-/// Adds the implementation of `InstructionData` for these formats, which are those in use by their names
-/// (`gen_instruction_data_impl` of `gen_inst.rs`): its methods `opcode`, `typevar_operand`, `arguments`, `arguments_mut`, `eq`,
-/// `hash`, `deep_clone` and `map`, each a match with an arm a format in this order. No empty line stands behind it.
+/// Adds the implementation of `InstructionData`, as `gen_instruction_data_impl` of the crate's `gen_inst.rs` writes it. The formats are
+/// those in use, by their names. The methods are `opcode`, `typevar_operand`, `arguments`, `arguments_mut`, `eq`, `hash`, `deep_clone` and
+/// `map`. Each is a match with an arm for each format, in order. The text doesn't end with an empty line.
 ///
-/// A format may have two blocks and one block without arguments at most; of more it is written as if they were so many.
+/// A format may have at most two blocks, and at most one block without arguments. A format with more is written as if it had two, or one.
 #[tactic(auto, unfolding(crate::specs::DataImpl::data_impl_text))]
 pub fn push_data_impl(
     alloc: Global,

@@ -68,7 +68,6 @@ fn cloned_members(alloc: Global, format: &InstructionFormat) -> Result<String, A
     Ok(text)
 }
 
-/// Adds the arm of a format.
 pub(crate) fn push_clone_arm(
     alloc: Global,
     out: &mut String,

@@ -4,7 +4,7 @@ ghost use Rattle.meta_instructions_methods_text.specs.EntityWord.{last_part, mar
 
 use std::alloc::{AllocError, Global};
 
-/// The last part of a path, as `StackSlot` of `ir::StackSlot`.
+/// The last part of a path, such as `StackSlot` of `ir::StackSlot`.
 fn last_part(path: &str) -> &str
     ensures { result.now ≡ last_part path.now }
 {
@@ -14,7 +14,7 @@ fn last_part(path: &str) -> &str
     }
 }
 
-/// What stands before a letter, behind a capital or not: a `_` where it is a later capital.
+/// What stands before a letter: a `_` before a capital, if a capital came before it in the name.
 fn mark_before(later: bool, c: char) -> &'static str
     ensures { result.now ≡ mark_before later c }
 {
@@ -25,7 +25,7 @@ fn mark_before(later: bool, c: char) -> &'static str
     }
 }
 
-/// Adds a letter in small letters, behind a capital or not.
+/// Adds a letter as a small letter, with what stands before it.
 fn push_letter(out: &mut String, later: bool, c: char) -> Result<(), AllocError>
     ensures { OnOk result ((rest : List ℕ)
         → string_bytes out.new ++ snake_from (later || is_ascii_uppercase c) rest
@@ -35,8 +35,8 @@ fn push_letter(out: &mut String, later: bool, c: char) -> Result<(), AllocError>
     write!(out, "{mark}{letter}")
 }
 
-/// The name in small letters, with a `_` before each capital but the first: `stack_slot` of `StackSlot` (this project's own rule,
-/// in place of the crate `heck`).
+/// The name in small letters, with a `_` before each capital but the first: `stack_slot` of `StackSlot`. It stands in place of the crate
+/// `heck`.
 fn snake_case(alloc: Global, name: &str) -> Result<String, AllocError>
     ensures { IfOk result (λ word. string_bytes word ≡ snake_case name.now) }
 {
@@ -49,8 +49,8 @@ fn snake_case(alloc: Global, name: &str) -> Result<String, AllocError>
     Ok(word)
 }
 
-/// The word by which the mapper's method names entities of this Rust type: `stack_slot` of `ir::StackSlot`. Blocks are mapped with
-/// their arguments.
+/// The word by which the mapper's method names entities of this Rust type: `stack_slot` of `ir::StackSlot`. Blocks are mapped with their
+/// arguments.
 pub(crate) fn entity_word(alloc: Global, rust_type: &str) -> Result<String, AllocError>
     ensures { IfOk result (λ word. string_bytes word ≡ entity_word rust_type.now) }
 {

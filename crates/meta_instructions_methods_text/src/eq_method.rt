@@ -25,7 +25,6 @@ const SECOND: &str = ", $member$: ref $member$2";
 /// A member is equal in both instructions.
 const EQUAL: &str = "                && $member$1 == $member$2\n";
 
-/// Adds that the values are equal.
 #[tactic(auto, using(crate::proofs::Templates::equal_same))]
 fn push_equal_values(out: &mut String, values: Values) -> Result<(), AllocError>
     ensures { OnOk result (string_bytes out.new ≡ string_bytes out.old ++ equal_values values) }
@@ -46,7 +45,6 @@ fn push_equal_values(out: &mut String, values: Values) -> Result<(), AllocError>
     }
 }
 
-/// Adds that the blocks are equal.
 #[tactic(auto, using(crate::proofs::Templates::equal_same))]
 fn push_equal_blocks(out: &mut String, blocks: Blocks) -> Result<(), AllocError>
     ensures { OnOk result (string_bytes out.new ≡ string_bytes out.old ++ equal_blocks blocks) }
@@ -73,7 +71,6 @@ fn equal_members(alloc: Global, format: &InstructionFormat) -> Result<String, Al
     Ok(text)
 }
 
-/// Adds the arm of a format.
 pub(crate) fn push_eq_arm(
     alloc: Global,
     out: &mut String,

@@ -21,7 +21,7 @@ const HASH_ARM_HOLES: [&str; 3] = ["name", "pattern", "members"];
 /// A member is hashed.
 const HASHED: &str = "                ::core::hash::Hash::hash(&$member$, state);\n";
 
-/// The count of the values is hashed, and each of them.
+/// The count of the values is hashed, and then each of them.
 const EACH_VALUE: &str = "                ::core::hash::Hash::hash(&$count$, state);
                 for &arg in $args$ {
                     ::core::hash::Hash::hash(&arg, state);
@@ -30,7 +30,7 @@ const EACH_VALUE: &str = "                ::core::hash::Hash::hash(&$count$, sta
 
 const EACH_VALUE_HOLES: [&str; 2] = ["count", "args"];
 
-/// The count of the blocks is hashed, and each of them with its arguments.
+/// The count of the blocks is hashed, and then each of them with its arguments.
 const EACH_BLOCK: &str = "                ::core::hash::Hash::hash(&$count$, state);
                 for &block in $blocks$ {
                     ::core::hash::Hash::hash(&block.block(pool), state);
@@ -42,7 +42,6 @@ const EACH_BLOCK: &str = "                ::core::hash::Hash::hash(&$count$, sta
 
 const EACH_BLOCK_HOLES: [&str; 2] = ["count", "blocks"];
 
-/// Adds that the values are hashed.
 #[tactic(auto, using(crate::proofs::Templates::hash_steps))]
 fn push_hashed_values(out: &mut String, values: Values) -> Result<(), AllocError>
     ensures { OnOk result (string_bytes out.new ≡ string_bytes out.old ++ hashed_values values) }
@@ -65,7 +64,6 @@ fn push_hashed_values(out: &mut String, values: Values) -> Result<(), AllocError
     }
 }
 
-/// Adds that the blocks are hashed.
 #[tactic(auto, using(crate::proofs::Templates::hash_steps))]
 fn push_hashed_blocks(out: &mut String, blocks: Blocks) -> Result<(), AllocError>
     ensures { OnOk result (string_bytes out.new ≡ string_bytes out.old ++ hashed_blocks blocks) }

@@ -8,20 +8,20 @@ use meta_operands::InstructionFormat;
 /// How `InstructionData` holds the value inputs of a format.
 #[derive(Clone, Copy)]
 pub(crate) enum Values {
-    /// There are none.
+    /// There is no value input.
     Absent,
     /// There is one, which stands alone.
     One,
-    /// There are so many, which stand in an array.
+    /// There are this many, which stand in an array.
     Several(u32),
     /// More may follow, and all stand in a list.
     Listed,
 }
 
-/// How `InstructionData` holds the blocks of a format, which may have two at most.
+/// How `InstructionData` holds the blocks of a format, of which there are at most two.
 #[derive(Clone, Copy)]
 pub(crate) enum Blocks {
-    /// There are none.
+    /// There is no block.
     Absent,
     /// There is one, which stands alone.
     One,

@@ -18,7 +18,7 @@ use std::alloc::{AllocError, Global};
 /// A block without arguments is mapped.
 const MAPPED_BLOCK: &str = "                    $member$: mapper.map_block($member$),\n";
 
-/// Adds the mapped value at a place of the array, behind a comma where others stand before it.
+/// Adds the mapped value at a place of the array, after a comma if others come before it.
 #[tactic(auto, unfolding(crate::specs::MapMethod::mapped_value))]
 fn push_mapped_value(out: &mut String, place: u32) -> Result<(), AllocError>
     ensures { OnOk result (string_bytes out.new ≡ string_bytes out.old ++ mapped_value place) }
@@ -29,7 +29,7 @@ fn push_mapped_value(out: &mut String, place: u32) -> Result<(), AllocError>
     write!(out, ", mapper.map_value(args[{place}])")
 }
 
-/// The mapped values of an array of so many, parted by a comma and a space.
+/// The mapped values of an array of `count`, separated by a comma and a space.
 fn mapped_elements(alloc: Global, count: u32) -> Result<String, AllocError>
     ensures { IfOk result (λ text. string_bytes text ≡ mapped_below count) }
 {
@@ -59,7 +59,6 @@ fn push_mapped_array(out: &mut String, elements: &str) -> Result<(), AllocError>
     write!(out, "                    args: [{elements}],\n")
 }
 
-/// Adds the values.
 #[tactic(auto, unfolding(crate::specs::MapMethod::mapped_values))]
 fn push_mapped_values(alloc: Global, out: &mut String, values: Values) -> Result<(), AllocError>
     ensures { OnOk result (string_bytes out.new ≡ string_bytes out.old ++ mapped_values values) }
@@ -75,7 +74,6 @@ fn push_mapped_values(alloc: Global, out: &mut String, values: Values) -> Result
     }
 }
 
-/// Adds the blocks.
 fn push_mapped_blocks(out: &mut String, blocks: Blocks) -> Result<(), AllocError>
     ensures { OnOk result (string_bytes out.new ≡ string_bytes out.old ++ mapped_blocks blocks) }
 {
@@ -89,7 +87,7 @@ fn push_mapped_blocks(out: &mut String, blocks: Blocks) -> Result<(), AllocError
     }
 }
 
-/// Adds an entity of this Rust type.
+/// Adds a member that is an entity of this Rust type.
 fn push_mapped_entity(
     alloc: Global,
     out: &mut String,
@@ -102,7 +100,7 @@ fn push_mapped_entity(
     push_mapped(out, member, word.as_str())
 }
 
-/// Adds a value of this Rust type that the instruction itself holds.
+/// Adds a member that is a value of this Rust type, which the instruction itself holds.
 fn push_immediate(out: &mut String, member: &str, rust_type: &str) -> Result<(), AllocError>
     ensures { OnOk result (string_bytes out.new ≡ string_bytes out.old ++ mapped_or_kept member.now (immediate_mapper rust_type.now)) }
 {
@@ -126,7 +124,6 @@ fn push_mapped_field(alloc: Global, out: &mut String, field: &FormatField) -> Re
     }
 }
 
-/// Adds fields.
 fn push_mapped_fields(
     alloc: Global,
     out: &mut String,
@@ -152,7 +149,6 @@ fn mapped_members(alloc: Global, format: &InstructionFormat) -> Result<String, A
     Ok(text)
 }
 
-/// Adds the arm of a format.
 pub(crate) fn push_map_arm(
     alloc: Global,
     out: &mut String,

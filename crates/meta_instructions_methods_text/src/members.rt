@@ -8,7 +8,7 @@ use meta_operands::{FormatField, InstructionFormat};
 use meta_rust_lines::fill;
 use std::alloc::{AllocError, Global};
 
-/// A text of a member has its name.
+/// The only hole of a text of a member is its name.
 const MEMBER_HOLES: [&str; 1] = ["member"];
 
 /// A member in a pattern, as it is and by reference.
@@ -16,7 +16,7 @@ pub(crate) const PLAIN: &str = ", $member$";
 
 pub(crate) const BY_REFERENCE: &str = ", ref $member$";
 
-/// Adds this text of a member, where there is one.
+/// Adds this text of a member, if there is one.
 pub(crate) fn push_member(
     out: &mut String,
     text: &str,
@@ -46,7 +46,8 @@ pub(crate) fn push_fields(
     Ok(())
 }
 
-/// The pattern of a format: the opcode, and these texts of the member of the values, of that of the blocks and of the others.
+/// The pattern of a format. `opcode` is the text of the opcode. The other texts are those of a member: `values` of the member of the
+/// values, `blocks` of that of the blocks, and `others` of each other member.
 pub(crate) fn pattern(
     alloc: Global,
     opcode: &str,

@@ -18,7 +18,7 @@ pub(crate) fn push_opcode_arm(out: &mut String, name: &str) -> Result<(), AllocE
     )
 }
 
-/// Adds the arm of the format of this name in `typevar_operand`: the value at the designated place, where one is designated.
+/// Adds the arm of the format of this name in `typevar_operand`: the value at the designated place, if one is designated.
 pub(crate) fn push_typevar_arm(
     out: &mut String,
     name: &str,
@@ -88,8 +88,8 @@ impl Access {
     }
 }
 
-/// Adds the arm of the format of this name, with the mark of references, in a method that makes one slice of the values, which
-/// these functions make of one value and of a list.
+/// Adds the arm of the format of this name, with the mark of references, in a method that makes one slice of the values. These functions
+/// make the slice of one value and of a list.
 fn push_values_arm(
     out: &mut String,
     name: &str,

@@ -4,7 +4,7 @@ ghost use Rattle.meta_instructions_methods_text.specs.Rebuilt.{kept};
 use super::members::push_member;
 use std::alloc::AllocError;
 
-/// The arm of a format that makes an instruction of this format again, whose opcode stays.
+/// The arm of a format that makes an instruction of this format again, with the same opcode.
 pub(crate) const REBUILT: &str = "            Self::$name${$pattern$} => {
                 Self::$name$ {
                     opcode,

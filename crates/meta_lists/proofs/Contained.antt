@@ -7,7 +7,7 @@ contains_first x xs = (0, omega arith, refl)
 pub contains_behind : {X : Type 0} (x y : X) (xs : List X) → Contains xs y → Contains (x ∷ xs) y
 contains_behind x y xs (k, l, e) = (suc k, omega (arith, l), e)
 
--- an element is the first, or stands behind it
+-- an element of a list is its first, or one after the first
 pub contains_cases : {X : Type 0} (x y : X) (xs : List X) → Contains (x ∷ xs) y → (x ≡ y) ⊎ Contains xs y
 contains_cases x y xs (zero, l, e) = inl e
 contains_cases x y xs (suc k, l, e) = inr (k, omega (arith, l), e)

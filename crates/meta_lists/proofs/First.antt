@@ -3,7 +3,7 @@ use Rattle.std.proofs.Common.{◌≡◌, ℕ, ◌<◌, ⊎_elim}
 use Rattle.std.proofs.lemmas.Bool.{cases_order}
 use Rattle.meta_lists.specs.First.{IsFirst}
 
--- two numbers that are the first are the same
+-- at most one number is the first
 pub one_first : (P : ℕ → Type 0) (n m : ℕ) → IsFirst P n → IsFirst P m → n ≡ m
 one_first P n m h g = ⊎_elim
     (λ e. e)

@@ -11,7 +11,7 @@ pub four : {X : Type 0} (old a b c d : List X) {x y z w : List X} → x ≡ old 
     → w ≡ z ++ d → w ≡ old ++ (a ++ (b ++ (c ++ d)))
 four old a b c d {x} first second third fourth = two old a (b ++ (c ++ d)) first (three x b c d second third fourth)
 
--- what was added where a call succeeded, and only there, was added where it succeeded
+-- what was added exactly where a call succeeded, was added if it succeeded
 pub where_ok : {X T E : Type 0} (r : Result T E) (old part : List X) {x : List X}
     → x ≡ (if is_ok r then (old ++ part) else old) → OnOk r (x ≡ old ++ part)
 where_ok (Ok v) old part e = e

@@ -5,12 +5,12 @@ use Rattle.std.specs.Option.{is_some, option_eq}
 use Rattle.std.proofs.lemmas.Bool.{false≢true}
 use Rattle.std.proofs.lemmas.Option.{same_Some}
 
--- what a map of an option has at a value
+-- the value of a mapped option comes from a value of the option
 pub mapped : {X Y : Type 0} (f : X → Y) (o : Option X) (y : Y) → option_map f o ≡ Some y → (x : X) × (o ≡ Some x) × (f x ≡ y)
 mapped f None y e = absurd (cc)
 mapped f (Some x) y e = (x, refl, same_Some (f x) y e)
 
--- what is said of the value where there is one
+-- an option with a value has one of which P holds, if P holds of its value
 pub told_some : {X : Type 0} (o : Option X) (P : X → Type 0) → true ≡ is_some o → IfSome o P → (x : X) × P x
 told_some None P e h = absurd (cc)
 told_some (Some x) P e h = (x, h)
@@ -19,7 +19,7 @@ pub told_none : {X : Type 0} (o : Option X) (P : Type 0) → false ≡ is_some o
 told_none None P e h = h
 told_none (Some x) P e h = absurd (false≢true e)
 
--- whether two options compare equal decides whether they are one, where it does so of what they have
+-- a test that decides whether two values are equal decides it for two options of such values
 pub option_decides : {X : Type 0} {eq : X → X → Bool} → ((x y : X) → Decides (eq x y) (x ≡ y)) → (a b : Option X)
     → Decides (option_eq eq a b) (a ≡ b)
 option_decides decides None None = (λ e. refl, λ e. refl)

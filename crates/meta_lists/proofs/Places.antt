@@ -6,20 +6,20 @@ use Rattle.std.proofs.lemmas.Option.{same_Some, slice_get_within, get_or_from_sl
 
 -- ---- a list alone
 
--- below its length something stands
+-- at a place below the length there is an element
 pub get_there : {X : Type 0} (xs : List X) (k : ℕ) → k < length xs → (x : X) × (slice_get xs k ≡ Some x)
 get_there [] k l = absurd (omega arith)
 get_there (x ∷ xs) zero l = (x, refl)
 get_there (x ∷ xs) (suc k) l = get_there xs k (omega arith)
 
--- a list of one has no other
+-- a list of one element has no other
 pub get_only : {X : Type 0} (x y : X) (k : ℕ) → slice_get (x ∷ []) k ≡ Some y → x ≡ y
 get_only x y zero at = cc
 get_only x y (suc k) at = cc
 
 -- ---- two lists that are equally long
 
--- where something stands in the one, something stands in the other
+-- where the one has an element, the other has one
 pub get_beside : {X Y : Type 0} (xs : List X) (ys : List Y) (k : ℕ) (x : X) → length xs ≡ length ys
     → slice_get xs k ≡ Some x → (y : Y) × (slice_get ys k ≡ Some y)
 get_beside [] ys k x l e = absurd (cc)
@@ -27,7 +27,7 @@ get_beside (z ∷ xs) [] k x l e = absurd (omega arith)
 get_beside (z ∷ xs) (y ∷ ys) zero x l e = (y, refl)
 get_beside (z ∷ xs) (y ∷ ys) (suc k) x l e = get_beside xs ys k x (omega arith) e
 
--- they are the same where they have the same elements
+-- they are equal if they have the same elements
 pub same_places : {X : Type 0} (xs ys : List X) → length xs ≡ length ys
     → ((j : ℕ) → j < length xs → slice_get xs j ≡ slice_get ys j) → xs ≡ ys
 same_places [] [] long each = refl
@@ -59,7 +59,7 @@ get_left [] ys k l = absurd (omega arith)
 get_left (x ∷ xs) ys zero l = refl
 get_left (x ∷ xs) ys (suc k) l = get_left xs ys k (omega arith)
 
--- what stands in the first stands there still
+-- an element of the first stays at its place
 pub get_stays : {X : Type 0} (xs ys : List X) (k : ℕ) (x : X) → slice_get xs k ≡ Some x → slice_get (xs ++ ys) k ≡ Some x
 get_stays xs ys k x e = get_left xs ys k (slice_get_within xs k x e) ∙ e
 
@@ -67,7 +67,7 @@ pub get_right : {X : Type 0} (xs ys : List X) (k : ℕ) → slice_get (xs ++ ys)
 get_right [] ys k = ap (slice_get ys) (zero-add k)
 get_right (x ∷ xs) ys k = ap (slice_get (x ∷ (xs ++ ys))) (suc-add (length xs) k) ∙ get_right xs ys k
 
--- the first of the second
+-- the element after the first list is the first of the second
 pub get_seam : {X : Type 0} (xs : List X) (y : X) (ys : List X) → slice_get (xs ++ y ∷ ys) (length xs) ≡ Some y
 get_seam [] y ys = refl
 get_seam (x ∷ xs) y ys = get_seam xs y ys
@@ -92,18 +92,18 @@ get_drop xs zero i = ap (slice_get xs) (sym (zero-add i))
 get_drop [] (suc n) i = refl
 get_drop (x ∷ xs) (suc n) i = get_drop xs n i ∙ ap (slice_get (x ∷ xs)) (sym (suc-add n i))
 
--- what stands among the first stands there
+-- an element among the first ones is an element of the list, at the same place
 pub get_taken : {X : Type 0} (xs : List X) (n k : ℕ) (x : X) → slice_get (take n xs) k ≡ Some x → slice_get xs k ≡ Some x
 get_taken xs zero k x e = absurd (cc)
 get_taken [] (suc n) k x e = absurd (cc)
 get_taken (y ∷ ys) (suc n) zero x e = e
 get_taken (y ∷ ys) (suc n) (suc k) x e = get_taken ys n k x e
 
--- one more of the first
+-- the first k + 1 elements are the first k, and the next
 pub take_next : {X : Type 0} (xs : List X) (k : ℕ) (x : X) → slice_get xs k ≡ Some x → take (k + 1) xs ≡ take k xs ++ x ∷ []
 take_next xs k x at = take_more xs k x (slice_get_within xs k x at) ∙ ap (λ w. take k xs ++ w ∷ []) (get_or_from_slice_get xs k x x at)
 
--- the first of the others
+-- the elements from a place on are the one at this place, and those after it
 pub drop_next : {X : Type 0} (xs : List X) (k : ℕ) (x : X) → slice_get xs k ≡ Some x → drop k xs ≡ x ∷ drop (k + 1) xs
 drop_next xs k x at = drop_more xs k x (slice_get_within xs k x at) ∙ ap (λ w. w ∷ drop (k + 1) xs) (get_or_from_slice_get xs k x x at)
 

@@ -1,4 +1,4 @@
--- The words behind the name of a command, one after the other.
+-- The words after the name of a command, one after the other.
 use Rattle.std.proofs.Common.{◌≡◌, ◌≢◌, ℕ, suc, ◌+◌, ◌-◌, ◌<◌, ◌≤◌, ⊎_elim, List, [], ◌∷◌, length, get_or, take, drop, slice_get, Option}
 use Rattle.std.proofs.Common.{None, Some, IfSome, IfNone, refl, subst, sym, ap, ◌∙◌, arith}
 use Rattle.std.proofs.lemmas.Bool.{cases_lt}
@@ -37,7 +37,7 @@ others_more commands k command name here other none j c below at = ⊎_elim
     subst (λ (x : CommandForm). x.name.now ≢ name) c_is other)
     (cases_lt j k)
 
--- words are the first of them, and those behind it
+-- words are the first of them, and those after it
 pub cut : (words : List (List ℕ)) (name : List ℕ) → 1 ≤ length words → name ≡ get_or words 0 name
     → words ≡ name ∷ take (length words - 1) (drop 1 words)
 cut [] name some is = let bad : ⊥ = omega arith in absurd bad
@@ -55,7 +55,7 @@ own_name commands name command h = record {
   first = subst (λ (n : List ℕ). NamesNoneBefore h.named.place commands n) (sym h.named.name_is) h.first;
 }
 
--- where the words behind the name of a command are its numbers, the words are taken
+-- if the words after the name of a command are its numbers, the words are taken
 pub taken_behind : (commands : List CommandForm) (words : List (List ℕ)) (name : List ℕ) (behind : List (List ℕ))
     (command : CommandForm) (misuse : Option Misuse) → words ≡ name ∷ behind → IsFirstNamed commands name command
     → IfNone misuse (AreNumbersIn command.numbers.now behind) → IfNone misuse (AreTaken commands words)
@@ -73,7 +73,7 @@ taken_behind commands words name behind command None are named h =
     }
 taken_behind commands words name behind command (Some m) are named h = tt
 
--- what is wrong behind the name of a command is wrong with the words
+-- what is wrong after the name of a command is wrong with the words
 pub misuse_behind : (commands : List CommandForm) (words : List (List ℕ)) (name : List ℕ) (behind : List (List ℕ))
     (command : CommandForm) (misuse : Option Misuse) → words ≡ name ∷ behind → IsFirstNamed commands name command
     → IfSome misuse (IsMisuseBehind command.numbers.now behind) → IfSome misuse (IsMisuse commands words)

@@ -1,4 +1,4 @@
--- The first word that asks for anything.
+-- The first word that asks for something.
 use Rattle.std.proofs.Common.{◌≡◌, ℕ, ◌+◌, ◌<◌, ◌≤◌, ◌⊎◌, ⊎_elim, List, length, get_or, slice_get, Some, refl, subst, sym, ◌∙◌, arith}
 use Rattle.std.proofs.lemmas.Bool.{cases_lt}
 use Rattle.std.proofs.lemmas.Option.{same_Some, slice_get_read, slice_get_within}
@@ -9,7 +9,7 @@ there : (words : List (List ℕ)) (k : ℕ) (word other : List ℕ) → k < leng
     → slice_get words k ≡ Some other → other ≡ word
 there words k word other within is at = same_Some _ _ (sym at ∙ slice_get_read words (length words) k word refl within is)
 
--- a word more asks for nothing
+-- one word more asks for nothing
 pub none_more : (words : List (List ℕ)) (k : ℕ) (word : List ℕ) → k < length words → word ≡ get_or words k word → (IsHelp word → ⊥)
     → (IsVersion word → ⊥) → ((j : ℕ) → j < k → AsksAt words j → ⊥) → (j : ℕ) → j < k + 1 → AsksAt words j → ⊥
 none_more words k word within is no_help no_version none j below asks = ⊎_elim
@@ -21,13 +21,13 @@ none_more words k word within is no_help no_version none j below asks = ⊎_elim
     ⊎_elim (λ h. no_help (subst IsHelp is_word h)) (λ v. no_version (subst IsVersion is_word v)) asks.2)
     (cases_lt j k)
 
--- the word at a place behind words that ask for nothing decides
+-- the word at a place after words that ask for nothing decides
 pub first_is : (P : List ℕ → Type 0) (words : List (List ℕ)) (k : ℕ) (word : List ℕ) → k < length words → word ≡ get_or words k word
     → P word → (IsHelp word ⊎ IsVersion word) → ((j : ℕ) → j < k → AsksAt words j → ⊥) → FirstAsks P words
 first_is P words k word within is holds asks none =
     let at : slice_get words k ≡ Some word = slice_get_read words (length words) k word refl within is in
     (k, record { holds = (word, at, asks); none_before = none }, (word, at, holds))
 
--- behind the last word none asks
+-- after the last word there is no word that asks
 pub none_at_all : (words : List (List ℕ)) (k : ℕ) → length words ≤ k → ((j : ℕ) → j < k → AsksAt words j → ⊥) → (j : ℕ) → AsksAt words j → ⊥
 none_at_all words k past none j asks = none j (let within = slice_get_within words j asks.0 asks.1 in omega arith) asks

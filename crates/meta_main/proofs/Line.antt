@@ -1,4 +1,4 @@
--- A usage line is plain, where the names of the commands are.
+-- A usage line is plain if the names of the commands are.
 use Rattle.std.proofs.Common.{◌≡◌, ℕ, suc, ◌<◌, ◌≤◌, ◌⊎◌, inl, inr, ⊎_elim, List, [], ◌∷◌, ◌++◌, codes, slice_get, Option, None, Some}
 use Rattle.std.proofs.Common.{flat_map, refl, sym, subst, arith}
 use Rattle.std.specs.Char.Escape.{escape_ascii}
@@ -51,7 +51,7 @@ wrong_text_plain (WordTooMany k) name word n w =
 wrong_text_plain NumberMissing name word n w =
     plain_append (codes "a number is missing for ") name (plain_from (codes "a number is missing for ") refl) n
 
--- what is wrong is told in plain bytes
+-- the text on what is wrong is plain
 pub wrong_plain : (words : List (List ℕ)) (m : Misuse) (text : List ℕ) → TellsWrong words m text → IsPlain text
 wrong_plain [] m text is = subst IsPlain (sym is) (plain_from (codes "no command") refl)
 wrong_plain (name ∷ behind) m text h =
@@ -70,7 +70,7 @@ commands_plain [] named = plain_from (codes "the program takes no words") refl
 commands_plain (command ∷ commands) named =
     plain_append (codes "the commands are ") _ (plain_from (codes "the commands are ") refl) (names_plain (command ∷ commands) named)
 
--- and so is the line
+-- a usage line is plain
 pub line_plain : (commands : List CommandForm) (words : List (List ℕ)) (m : Misuse) (wrong line : List ℕ) → TellsWrong words m wrong
     → line ≡ wrong ++ (codes ": " ++ (commands_text commands ++ codes "; --help says more")) → ArePlainlyNamed commands → IsPlain line
 line_plain commands words m wrong line told is named =
@@ -80,6 +80,6 @@ line_plain commands words m wrong line told is named =
     (plain_append (commands_text commands) (codes "; --help says more") (commands_plain commands named)
     (plain_from (codes "; --help says more") refl))))
 
--- where the words are none, the line says just that there is no command
+-- if there are no words, the line says just that there is no command
 pub no_command_plain : (line : List ℕ) → line ≡ codes "no command" → IsPlain line
 no_command_plain line is = subst IsPlain (sym is) (plain_from (codes "no command") refl)

@@ -128,7 +128,7 @@ coded_plain b =
     (two_plain (hex_digit_at 0x10 b) (hex_digit_at 1 b) (digit_plain (b / 0x10 % 16) (omega arith))
     (digit_plain (b / 1 % 16) (omega arith))))
 
--- what tests have told
+-- what tests have decided
 positive : (n : ℕ) → nat_lt 0 n ≡ true → 0 < n
 positive n e = grind (arith, nat_tests)
 
@@ -161,7 +161,7 @@ one_more_letter now more ch letter left rest whole same pushed step e =
     ∙ ap (λ (l : List ℕ). now ++ encode_utf8_all l) (sym step)
     ∙ e
 
--- where none is left, all are
+-- if no letter is left, all are written
 pub all_escaped : (now old left : List ℕ) (b : ℕ) → left ≡ [] → now ++ encode_utf8_all left ≡ old ++ encode_utf8_all (escape_ascii b)
     → now ≡ old ++ escape_ascii b
 all_escaped now old left b none e =

@@ -9,7 +9,7 @@ use Rattle.meta_main.specs.declared.manual.Range.{Range}
 use Rattle.meta_main.specs.declared.misuse.Misuse.{Misuse}
 use Rattle.meta_main.specs.declared.misuse.Misuse.TheVariants.{NoWord, NoCommand, NoNumber, WordTooMany, NumberMissing}
 
--- the first of the words, and those behind it
+-- the first of the words, and those after it
 abbrev head_of : List ℕ → List (List ℕ) → List ℕ
 head_of d [] = d
 head_of d (x ∷ xs) = x
@@ -18,7 +18,7 @@ abbrev tail_of : List (List ℕ) → List (List ℕ)
 tail_of [] = []
 tail_of (x ∷ xs) = xs
 
--- the first command of a name is one
+-- at most one command is the first of a name
 one_first : (commands : List CommandForm) (name : List ℕ) (c d : CommandForm) → IsFirstNamed commands name c
     → IsFirstNamed commands name d → c ≡ d
 one_first commands name c d h k = ⊎_elim
@@ -31,7 +31,7 @@ one_first commands name c d h k = ⊎_elim
     (cases_lt k.named.place h.named.place))
     (cases_lt h.named.place k.named.place)
 
--- words that write the numbers have no misuse behind the name
+-- words that write the numbers have no misuse after the name
 no_misuse_behind : (ranges : List Range) (words : List (List ℕ)) (m : Misuse) → AreNumbersIn ranges words
     → IsMisuseBehind ranges words m → ⊥
 no_misuse_behind ranges words NoWord are h = h

@@ -1,7 +1,7 @@
 -- Why words are no command of a program.
---     AreCommandWords commands words   they are one
---     AreTaken commands words       they are the first one of its name
---     IsMisuse commands words m     they aren't taken, and m tells of the first word for which they aren't
+--     AreCommandWords commands words   they are a command
+--     AreTaken commands words       they are the first command of its name
+--     IsMisuse commands words m     they aren't taken, and m says which word is the first that is wrong
 use Rattle.std.specs.Prelude.{◌≡◌, ◌≢◌, ◌<◌, ◌≤◌, ℕ, List, [], ◌∷◌, length, slice_get, Some}
 use Rattle.std.specs.Fmt.{decimal}
 use Rattle.meta_main.specs.declared.manual.CommandForm.{CommandForm}
@@ -16,7 +16,7 @@ pub record IsNumberIn (range : Range) (word : List ℕ) : Type 0 where
   pub least : range.least ≤ number
   pub most : number ≤ range.most
 
--- the first so many words write numbers of the first so many ranges, each of its own, as far as there are both
+-- the first n words write numbers of the first n ranges, each of its own range, as far as there are both
 abbrev pub AreNumbersTo : ℕ → List Range → List (List ℕ) → Type 0
 AreNumbersTo count ranges words = (k : ℕ) (range : Range) (word : List ℕ) → k < count
     → slice_get ranges k ≡ Some range → slice_get words k ≡ Some word → IsNumberIn range word
@@ -46,7 +46,7 @@ pub record IsFirstNamed (commands : List CommandForm) (name : List ℕ) (command
 abbrev pub NamesNone : List CommandForm → List ℕ → Type 0
 NamesNone commands name = (k : ℕ) (command : CommandForm) → slice_get commands k ≡ Some command → command.name.now ≢ name
 
--- the words are a command: its name, and its numbers behind it
+-- the words are a command: its name, and its numbers after it
 pub record AreCommandWords (commands : List CommandForm) (words : List (List ℕ)) : Type 0 where
   pub command : CommandForm
   pub behind : List (List ℕ)
@@ -59,7 +59,7 @@ pub record AreTaken (commands : List CommandForm) (words : List (List ℕ)) : Ty
   pub are : AreCommandWords commands words
   pub first : NamesNoneBefore are.named.place commands are.command.name.now
 
--- the words behind a name aren't numbers of these ranges, and m tells of the first word that makes them none
+-- the words after a name aren't numbers of these ranges, and m says which word is the first that is wrong
 abbrev pub IsMisuseBehind : List Range → List (List ℕ) → Misuse → Type 0
 IsMisuseBehind ranges words NoWord = ⊥
 IsMisuseBehind ranges words NoCommand = ⊥
@@ -68,7 +68,7 @@ IsMisuseBehind ranges words (NoNumber k) = AreNumbersTo k ranges words × (range
 IsMisuseBehind ranges words (WordTooMany k) = AreNumbersTo k ranges words × (k ≡ length ranges) × (k < length words)
 IsMisuseBehind ranges words NumberMissing = AreNumbersTo (length words) ranges words × (length words < length ranges)
 
--- the words begin with the name of a command, the first of this name, and this is so of those behind it
+-- the words begin with the name of a command, the first of this name, and the words after it have this misuse
 pub record IsMisuseOf (commands : List CommandForm) (words : List (List ℕ)) (m : Misuse) : Type 0 where
   pub command : CommandForm
   pub behind : List (List ℕ)
@@ -76,7 +76,7 @@ pub record IsMisuseOf (commands : List CommandForm) (words : List (List ℕ)) (m
   pub named : IsFirstNamed commands command.name.now command
   pub misuse : IsMisuseBehind command.numbers.now behind m
 
--- the words aren't taken, and m tells of the first word for which they aren't
+-- the words aren't taken, and m says which word is the first that is wrong
 abbrev pub IsMisuse : List CommandForm → List (List ℕ) → Misuse → Type 0
 IsMisuse commands words NoWord = words ≡ []
 IsMisuse commands words NoCommand = (name : List ℕ) × (behind : List (List ℕ)) × (words ≡ name ∷ behind) × NamesNone commands name

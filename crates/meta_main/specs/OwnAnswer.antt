@@ -1,13 +1,13 @@
 -- What a program answers of itself.
---     WasPrinted ending              the text was written, or could not be
---     IsOwnAnswer words answer       nothing where the words are for the program's work, and else how the print of what they ask ended
+--     WasPrinted ending              the text was written, or couldn't be
+--     IsOwnAnswer words answer       no answer if the words are for the program's work, and else how the print of what they ask for ended
 use Rattle.std.specs.Prelude.{◌≡◌, ◌⊎◌, ℕ, List, Option, None, Some}
 use Rattle.meta_main.specs.Asked.{AsksFor}
 use Rattle.meta_main.specs.declared.asked.Asked.TheVariants.{Help, Version, Work}
 use Rattle.meta_run.specs.declared.ending.Ending.{Ending}
 use Rattle.meta_run.specs.declared.ending.Ending.TheVariants.{Done, WriteFault}
 
--- the text was written, or could not be
+-- the text was written, or couldn't be
 abbrev pub WasPrinted : Ending → Type 0
 WasPrinted ending = (ending ≡ Done) ⊎ (ending ≡ WriteFault)
 

@@ -1,5 +1,5 @@
 -- What a program says of its ending.
---     about_text ending     the text behind the name of the program on standard error, and none where all is done
+--     about_text ending     the text after the name of the program on standard error, and no text if all is done
 use Rattle.std.specs.Prelude.{ℕ, List, Option, None, Some, codes}
 use Rattle.meta_run.specs.declared.ending.Ending.{Ending}
 use Rattle.meta_run.specs.declared.ending.Ending.TheVariants.{Done, Refused, Usage, ReadFault, WriteFault, OutOfMemory, TooLong, Rejected}

@@ -1,5 +1,5 @@
 -- The line that names the wrong word of words that are no command.
---     IsUsageLine commands words line     the line names the word that a misuse of the words tells of, and the commands
+--     IsUsageLine commands words line     the line names the wrong word, by a misuse of the words, and the commands
 use Rattle.std.specs.Prelude.{◌≡◌, ◌≤◌, ◌<◌, ℕ, List, [], ◌∷◌, ◌++◌, codes, slice_get, None, Some}
 use Rattle.std.specs.Char.Escape.{escape_ascii}
 use Rattle.std.specs.List.{flat_map}
@@ -12,21 +12,21 @@ use Rattle.meta_main.specs.declared.misuse.Misuse.TheVariants.{NoWord, NoCommand
 abbrev pub IsPlain : List ℕ → Type 0
 IsPlain word = (k byte : ℕ) → slice_get word k ≡ Some byte → (32 ≤ byte) × (byte < 127)
 
--- the word between double quotes, each byte as `u8::escape_ascii` writes it: `\n`, `\"`, `\x1b`, or itself where it is plain
+-- the word between double quotes, each byte as `u8::escape_ascii` writes it: `\n`, `\"`, `\x1b`, or the byte itself if it is plain
 abbrev pub escaped : List ℕ → List ℕ
 escaped word = codes "\"" ++ (flat_map escape_ascii word ++ codes "\"")
 
--- what a line shows of a word: a plain one stands between quotes as it is, and any other with escapes
+-- what a line shows of a word: a plain word stands unchanged between quotes, and any other with escapes
 pub record IsShown (word shown : List ℕ) : Type 0 where
   pub plain : IsPlain word → shown ≡ codes "'" ++ (word ++ codes "'")
   pub others : (IsPlain word → ⊥) → shown ≡ escaped word
 
--- the same of the word at a place, and nothing where there is none
+-- the same for the word at a place, and no text if there is no word there
 pub record IsShownAt (words : List (List ℕ)) (place : ℕ) (shown : List ℕ) : Type 0 where
   pub word : (word : List ℕ) → slice_get words place ≡ Some word → IsShown word shown
   pub none : slice_get words place ≡ None → shown ≡ []
 
--- what is wrong with the words behind a name of which m tells, by the name and the word as they are shown
+-- the text on a misuse of the words after a name, by the name and the wrong word as they are shown
 abbrev pub misuse_text : Misuse → List ℕ → List ℕ → List ℕ
 misuse_text NoWord name word = codes "no command " ++ name
 misuse_text NoCommand name word = codes "no command " ++ name
@@ -34,7 +34,7 @@ misuse_text (NoNumber place) name word = word ++ (codes " is no number for " ++ 
 misuse_text (WordTooMany place) name word = word ++ (codes " is a word too many for " ++ name)
 misuse_text NumberMissing name word = codes "a number is missing for " ++ name
 
--- the place behind the name of the word that is shown
+-- the place, after the name, of the word that is shown
 abbrev pub misuse_place : Misuse → ℕ
 misuse_place NoWord = 0
 misuse_place NoCommand = 0
@@ -42,7 +42,7 @@ misuse_place (NoNumber place) = place
 misuse_place (WordTooMany place) = place
 misuse_place NumberMissing = 0
 
--- the text says what m tells of the words, and names the word
+-- the text says what is wrong with the words by m, and names the word
 pub record IsWrongBehind (name : List ℕ) (behind : List (List ℕ)) (m : Misuse) (text : List ℕ) : Type 0 where
   pub name_shown : List ℕ
   pub shows_name : IsShown name name_shown
@@ -50,12 +50,12 @@ pub record IsWrongBehind (name : List ℕ) (behind : List (List ℕ)) (m : Misus
   pub shows_word : IsShownAt behind (misuse_place m) word_shown
   pub is : text ≡ misuse_text m name_shown word_shown
 
--- the same of all words: the first is the name, and where there is no word, the text says just that there is no command
+-- the same for all words: the first is the name; if there is no word, the text says just that there is no command
 abbrev pub TellsWrong : List (List ℕ) → Misuse → List ℕ → Type 0
 TellsWrong [] m text = text ≡ codes "no command"
 TellsWrong (name ∷ behind) m text = IsWrongBehind name behind m text
 
--- a name behind a comma
+-- a name after a comma
 abbrev pub command_behind_comma : CommandForm → List ℕ
 command_behind_comma command = codes ", " ++ command.name.now
 
@@ -64,7 +64,7 @@ abbrev pub command_names_text : List CommandForm → List ℕ
 command_names_text [] = []
 command_names_text (command ∷ commands) = command.name.now ++ flat_map command_behind_comma commands
 
--- which commands there are: where there is none, no word is taken
+-- which commands there are; if there are none, no word is taken
 abbrev pub commands_text : List CommandForm → List ℕ
 commands_text [] = codes "the program takes no words"
 commands_text (command ∷ commands) = codes "the commands are " ++ command_names_text (command ∷ commands)

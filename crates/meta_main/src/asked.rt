@@ -4,25 +4,23 @@ ghost use Rattle.meta_main.specs.Asked.{AsksFor, AsksAmong, IsHelp, IsVersion};
 use super::word::is_text;
 use meta_types::Text;
 
-/// What words ask of the program itself (this project's own).
+/// What words ask of the program itself.
 #[derive(Clone, Copy, Debug, PartialEq, Eq)]
 pub enum Asked {
-    /// Its help.
+    /// The help of the program.
     Help,
-    /// Its version.
+    /// The version of the program.
     Version,
-    /// Nothing: the words are for what the program does.
+    /// Nothing: the words are for the program's work.
     Work,
 }
 
-/// Whether the word asks for the help.
 fn is_help(word: &Text) -> bool
     ensures { IsTrue result ↔ IsHelp word.now }
 {
     is_text(word, "--help") || is_text(word, "-h")
 }
 
-/// Whether the word asks for the version.
 fn is_version(word: &Text) -> bool
     ensures { IsTrue result ↔ IsVersion word.now }
 {
@@ -30,7 +28,7 @@ fn is_version(word: &Text) -> bool
 }
 
 impl Asked {
-    /// What the words ask: `help` alone asks for the help, and else the first of `--help`, `-h`, `--version` and `-V` among them
+    /// What the words ask for. `help` alone asks for the help. Otherwise the first of `--help`, `-h`, `--version` and `-V` among the words
     /// decides.
     pub fn of(words: &[Text]) -> Asked
         ensures { AsksFor words.now result }
@@ -43,7 +41,7 @@ impl Asked {
         Asked::among(words)
     }
 
-    /// What the first of the words asks that asks anything.
+    /// What the first word asks for that asks for something.
     fn among(words: &[Text]) -> Asked
         ensures { AsksAmong words.now result }
     {

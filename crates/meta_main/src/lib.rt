@@ -1,7 +1,8 @@
-//! What each program over declarations does as a process: its words, `--help` and `--version`, the line on standard error, and the
-//! exit status.
+//! What each program over declarations does as a process: its words, `--help` and `--version`, the line on standard error, and the exit
+//! status.
 //!
-//! A program is what it says of itself, a `Manual`, and what it does with its words, an `impl Program`; its `main` is a call of `start`.
+//! A program is a `Manual`, which is what it says of itself, and an `impl Program`, which is what it does with its words. Its `main` is a
+//! call of `start`.
 #![tactic(auto)]
 
 mod asked;

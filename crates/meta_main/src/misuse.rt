@@ -7,16 +7,16 @@ use super::word::is_text;
 use meta_types::Text;
 use meta_words::number_in;
 
-/// Why words are no command of a program (this project's own). A place behind the name of a command counts from 0.
+/// Why words are no command of a program. A place after the name of a command counts from 0.
 #[derive(Clone, Copy, Debug, PartialEq, Eq)]
 pub enum Misuse {
     /// There is no word.
     NoWord,
     /// The first word is the name of no command.
     NoCommand,
-    /// The word at this place behind the name is no number that may stand there.
+    /// The word at this place after the name isn't a number that may stand there.
     NoNumber(usize),
-    /// No word may stand at this place behind the name.
+    /// No word may stand at this place after the name.
     WordTooMany(usize),
     /// A number is missing at the end.
     NumberMissing,
@@ -47,7 +47,7 @@ fn named<'c>(commands: &'c [CommandForm], name: &Text) -> Option<&'c CommandForm
     None
 }
 
-/// Why the words behind a name aren't its numbers, if they aren't.
+/// Why the words after a name aren't its numbers, if they aren't.
 fn behind(numbers: &[Range], words: &[Text]) -> Option<Misuse>
     ensures none { IfNone result (AreNumbersIn numbers.now words.now) }
     ensures some { IfSome result (IsMisuseBehind numbers.now words.now) }
@@ -64,8 +64,8 @@ fn behind(numbers: &[Range], words: &[Text]) -> Option<Misuse>
 }
 
 impl Misuse {
-    /// Why the words are none of these commands, and `None` where they are one: it tells of the first word that makes them none. Of
-    /// commands of one name the first counts.
+    /// Why the words are none of these commands, by the first word that is wrong. It is `None` if they are a command. If several commands
+    /// have one name, only the first counts.
     pub fn of(commands: &[CommandForm], words: &[Text]) -> Option<Misuse>
         ensures none { IfNone result (AreTaken commands.now words.now) }
         ensures some { IfSome result (IsMisuse commands.now words.now) }
@@ -79,7 +79,7 @@ impl Misuse {
         }
     }
 
-    /// The place behind the name of the word that it tells of, and 0 where it tells of none there.
+    /// The place, after the name, of the wrong word, and 0 if there is no such word.
     pub(crate) fn place(self) -> usize
         ensures { result ≡ misuse_place self }
     {

@@ -13,9 +13,9 @@ use std::alloc::Global;
 use std::io::{self, ErrorKind};
 use std::process::ExitCode;
 
-/// What a program does (this project's own).
+/// What a program does.
 pub trait Program {
-    /// Does what the words ask: reads its input from the source, and writes its answer, and nothing else, to the sink. `Usage` says
+    /// Does what the words ask for: reads its input from the source, and writes its answer, and nothing else, to the sink. `Usage` means
     /// that the words are no command.
     fn run<S: Source, K: Sink>(
         &self,
@@ -26,7 +26,7 @@ pub trait Program {
     ) -> Ending;
 }
 
-/// What it means that the words of the program can't be had.
+/// The ending of a program whose words can't be read.
 fn no_words(error: &io::Error) -> Ending
     ensures { (result ≡ OutOfMemory) ⊎ (result ≡ Usage) }
 {
@@ -36,7 +36,7 @@ fn no_words(error: &io::Error) -> Ending
     }
 }
 
-/// The words after the program's name. `OutOfMemory` says that there is no room for them, and `Usage` that they are no text.
+/// The words after the program's name. `OutOfMemory` means that memory ran out, and `Usage` that a word isn't text.
 pub fn words(rt: &HostRuntime) -> Result<Vec<Text>, Ending>
     ensures had_or_told { IfErr result (λ ending. (ending ≡ OutOfMemory) ⊎ (ending ≡ Usage)) }
 {
@@ -60,7 +60,7 @@ fn printed(outcome: io::Result<()>) -> Ending
     }
 }
 
-/// Prints the help or the version, where the words ask for it, and says how that ended: `Done`, or `WriteFault`.
+/// Prints the help or the version, if the words ask for it, and answers how that ended: `Done`, or `WriteFault`.
 pub fn answer_of_itself(rt: &HostRuntime, manual: &Manual, words: &[Text]) -> Option<Ending>
     ensures asked { IsOwnAnswer words.now result }
 {
@@ -72,7 +72,6 @@ pub fn answer_of_itself(rt: &HostRuntime, manual: &Manual, words: &[Text]) -> Op
     }
 }
 
-/// Does what the words ask.
 fn answer<P: Program>(rt: &HostRuntime, manual: &Manual, program: &P, words: &[Text]) -> Ending {
     if let Some(ending) = answer_of_itself(rt, manual, words) {
         return ending;
@@ -82,15 +81,14 @@ fn answer<P: Program>(rt: &HostRuntime, manual: &Manual, program: &P, words: &[T
     program.run(rt.alloc(), words, &mut source, &mut sink)
 }
 
-/// Says in one line on standard error what an ending other than `Done` was about. Where standard error fails too, the exit status
-/// still tells.
+/// Says in one line on standard error why an ending isn't `Done`. If standard error fails too, the exit status still says it.
 pub fn tell(rt: &HostRuntime, manual: &Manual, ending: Ending) {
     if let Some(about) = about(ending) {
         let _ = eprintln!(rt; "{}: {about}", manual.name);
     }
 }
 
-/// The same of words that are no command: which of them is wrong, and which commands there are.
+/// Says in one line on standard error which word is wrong and which commands there are. The words are no command.
 pub fn tell_wrong(rt: &HostRuntime, manual: &Manual, words: &[Text]) {
     match usage_line(rt.alloc(), manual, words) {
         Ok(line) => {
@@ -100,7 +98,7 @@ pub fn tell_wrong(rt: &HostRuntime, manual: &Manual, words: &[Text]) {
     }
 }
 
-/// Does what the words ask, and says what it was about where that isn't done.
+/// Does what the words ask for, and says why if the ending isn't `Done`.
 fn run<P: Program>(rt: &HostRuntime, manual: &Manual, program: &P, words: &[Text]) -> Ending {
     let ending = answer(rt, manual, program, words);
     match ending {
@@ -110,9 +108,9 @@ fn run<P: Program>(rt: &HostRuntime, manual: &Manual, program: &P, words: &[Text
     ending
 }
 
-/// Runs a program as a process. `--help`, `-h`, `help` alone, `--version` and `-V` are answered by what the program says of itself;
-/// any other words are handed to it. Standard output has answers alone; what an ending other than `Done` was about is one line on
-/// standard error, which for words that are no command names the wrong one and the commands. The exit status is that of the ending.
+/// Runs a program as a process. `--help`, `-h`, `help` alone, `--version` and `-V` are answered from the manual, and all other words are
+/// handed to the program. Standard output has answers alone. If the ending isn't `Done`, one line on standard error says why; if the words
+/// are no command, it names the wrong word and the commands. The exit status is that of the ending.
 pub fn start<P: Program>(rt: &HostRuntime, manual: &Manual, program: &P) -> ExitCode {
     let ending = match words(rt) {
         Ok(words) => run(rt, manual, program, &words),

@@ -4,7 +4,7 @@ ghost use Rattle.meta_main.specs.Telling.{about_text};
 
 use meta_run::Ending;
 
-/// What an ending other than `Done` was about, for a person (this project's own).
+/// Why an ending isn't `Done`, for a person. `None` if it is `Done`.
 pub fn about(ending: Ending) -> Option<&'static str>
     ensures { option_copied result ≡ about_text ending }
 {

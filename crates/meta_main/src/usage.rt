@@ -24,7 +24,7 @@ fn names(alloc: Global, commands: &[CommandForm]) -> Result<String, AllocError>
     Ok(names)
 }
 
-/// Which commands there are: where there is none, no word is taken.
+/// Which commands there are. If there are none, no word is taken.
 fn commands_text(alloc: Global, commands: &[CommandForm]) -> Result<String, AllocError>
     ensures { IfOk result (λ text. string_bytes text ≡ commands_text commands.now) }
 {
@@ -44,7 +44,7 @@ fn is_plain_byte(byte: u8) -> bool
     32 <= byte && byte < 127
 }
 
-/// Whether each byte is one of these.
+/// Whether each byte is plain.
 fn is_plain(word: &Text) -> bool
     ensures { IsTrue result ↔ IsPlain word.now }
 {
@@ -66,7 +66,7 @@ fn push_escaped(shown: &mut String, byte: u8) -> Result<(), AllocError>
     Ok(())
 }
 
-/// The bytes between double quotes, each so.
+/// The bytes between double quotes, each as `u8::escape_ascii` writes it.
 fn escaped(alloc: Global, bytes: &[u8]) -> Result<String, AllocError>
     ensures { IfOk result (λ shown. string_bytes shown ≡ escaped bytes.now) }
 {
@@ -78,7 +78,7 @@ fn escaped(alloc: Global, bytes: &[u8]) -> Result<String, AllocError>
     Ok(shown)
 }
 
-/// The word as a line shows it: between quotes, and where it isn't plain, with escapes.
+/// The word as a line shows it: between quotes, and with escapes if it isn't plain.
 fn shown(alloc: Global, word: &Text) -> Result<String, AllocError>
     ensures { IfOk result (λ shown. IsShown word.now (string_bytes shown)) }
 {
@@ -90,7 +90,7 @@ fn shown(alloc: Global, word: &Text) -> Result<String, AllocError>
     }
 }
 
-/// The word at a place as a line shows it, and nothing where there is none.
+/// The word at a place as a line shows it. It is empty if there is no word there.
 fn shown_at(alloc: Global, words: &[Text], place: usize) -> Result<String, AllocError>
     ensures { IfOk result (λ shown. IsShownAt words.now place (string_bytes shown)) }
 {
@@ -100,7 +100,7 @@ fn shown_at(alloc: Global, words: &[Text], place: usize) -> Result<String, Alloc
     }
 }
 
-/// What is wrong with the words behind a name, and with which.
+/// What is wrong with the words after a name, and which word is wrong.
 fn wrong_behind(
     alloc: Global,
     name: &Text,
@@ -119,7 +119,7 @@ fn wrong_behind(
     }
 }
 
-/// What is wrong with the words, and with which.
+/// What is wrong with the words, and which word is wrong.
 fn wrong(alloc: Global, words: &[Text], misuse: Misuse) -> Result<String, AllocError>
     ensures { IfOk result (λ text. TellsWrong words.now misuse (string_bytes text)) }
 {
@@ -129,9 +129,9 @@ fn wrong(alloc: Global, words: &[Text], misuse: Misuse) -> Result<String, AllocE
     }
 }
 
-/// What is wrong with words that are none of the program's commands, with which of them, and which commands there are: one line,
-/// without its line feed. Where the names of the commands are plain, so is each byte of it: no word ends the line, or reaches a terminal
-/// as anything but ASCII that prints.
+/// The usage line: what is wrong with words that are no command of the program, which word is wrong, and which commands there are. It is
+/// one line, without its line feed. If the names of the commands are plain, each byte of the line is plain: no word ends the line, or
+/// reaches a terminal as anything but printable ASCII.
 pub fn usage_line(alloc: Global, manual: &Manual, words: &[Text]) -> Result<String, AllocError>
     ensures plain { ArePlainlyNamed manual.now.commands.now → IfOk result (λ line. IsPlain (string_bytes line)) }
     ensures line { (AreTaken manual.now.commands.now words.now → ⊥)

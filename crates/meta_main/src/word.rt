@@ -2,7 +2,6 @@ ghost use Rattle.std.specs.Prelude.{◌≡◌, ◌↔◌, IsTrue};
 
 use meta_types::Text;
 
-/// Whether the word is this text.
 pub(crate) fn is_text(word: &Text, text: &str) -> bool
     ensures { IsTrue result ↔ (word.now ≡ text.now) }
 {

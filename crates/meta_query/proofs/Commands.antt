@@ -1,4 +1,4 @@
--- Words are those of one command at most.
+-- Words are those of at most one command.
 use Rattle.std.proofs.Common.{◌≡◌, ℕ, ◌<◌, ◌^◌, ◌⊎◌, inl, inr, List, [], ◌∷◌, Option, Some, refl, sym, ap₂, ◌∙◌, arith}
 use Rattle.std.specs.Prelude.{nat_eq}
 use Rattle.std.specs.Cmp.Lexicographic.{pointwise}
@@ -9,9 +9,9 @@ use Rattle.meta_query.specs.Command.{command_name, number_words, command_words, 
 use Rattle.meta_query.specs.declared.command.Command.{Command}
 use Rattle.meta_query.specs.declared.command.Command.TheVariants.{Query, Recheck, Tables, Types, Settings, Instructions, Builder, Synth}
 
--- ---- the name of a command tells it, but for its number
+-- ---- the name of a command determines it, but for its number
 
--- the number of a command, where it has one
+-- the number of a command, if it has one
 abbrev command_number : Command → ℕ
 command_number Query = 0
 command_number Recheck = 0
@@ -22,7 +22,7 @@ command_number Instructions = 0
 command_number Builder = 0
 command_number (Synth n) = n
 
--- all commands, that with a number with this one
+-- all commands, with this number if they have one
 abbrev commands : ℕ → List Command
 commands n = Query ∷ Recheck ∷ Tables ∷ Types ∷ Settings ∷ Instructions ∷ Builder ∷ Synth n ∷ []
 
@@ -41,9 +41,9 @@ finds Instructions = refl
 finds Builder = refl
 finds (Synth n) = refl
 
--- ---- what stands behind the name tells the number
+-- ---- what comes after the name determines the number
 
--- two numbers of 32 bits that are written as one are one
+-- two numbers of 32 bits with the same decimal digits are equal
 same_number : (m n : ℕ) → m < 2 ^ 32 → n < 2 ^ 32 → decimal m ≡ decimal n → m ≡ n
 same_number m n few less e = decimal_injective m n (omega arith) (omega arith) e
 

@@ -1,4 +1,4 @@
--- What the text of tables shows has no LF.
+-- The text of tables shows only texts without LF.
 --     IsEndless text        no LF stands in the text
 use Rattle.std.proofs.Common.{◌≡◌, ℕ, zero, suc, ◌/◌, ◌%◌, ◌==◌, cond, not, ◌&&◌, Bool, true, false, inl, List, [], ◌∷◌, ◌++◌, All}
 use Rattle.std.proofs.Common.{map, Option, None, Some, codes, refl, arith}
@@ -108,7 +108,7 @@ camel_at_endless names op all = by_option (at_opcode names op) (λ name at. name
     by_option None named = refl
     by_option (Some name) named = camel_from_endless true name (all_name_bytes name (named name refl))
 
--- ---- texts that are parted
+-- ---- texts that are separated
 
 behind_endless : (texts : List (List ℕ)) → All IsEndless texts → IsEndless (flat_map (λ text. codes ", " ++ text) texts)
 behind_endless [] all = refl

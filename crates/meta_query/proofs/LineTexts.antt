@@ -1,4 +1,4 @@
--- Lines by their parts, texts one behind another, and lists, of which no line is the mark.
+-- Lines by their parts, texts one after another, and lists, of which no line is the mark.
 use Rattle.std.proofs.Common.{◌≡◌, ℕ, zero, suc, true, List, [], ◌∷◌, ◌++◌, All, codes, append_assoc, refl, sym, ap, ◌∙◌, subst}
 use Rattle.std.specs.List.{flat_map}
 use Rattle.std.specs.Fmt.{decimal}
@@ -62,7 +62,7 @@ lines_unmarked (line ∷ lines) other =
     (unmarked_both (indented line.level (parts_onto line.parts [])) (text_of lines) (other_unmarked line.level line.parts other.0)
     (lines_unmarked lines other.1))
 
--- ---- texts one behind another
+-- ---- texts one after another
 
 pub each_unmarked : (f : ℕ → List ℕ) (n : ℕ) → ((op : ℕ) → IsUnmarked (f op)) → IsUnmarked (each_opcode f n)
 each_unmarked f zero each = unmarked_none

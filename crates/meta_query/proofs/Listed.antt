@@ -14,7 +14,7 @@ use Rattle.meta_main.specs.declared.manual.CommandForm.{CommandForm}
 use Rattle.meta_query.specs.declared.command.Command.{Command}
 use Rattle.meta_query.specs.declared.command.Command.TheVariants.{Query, Recheck, Tables, Types, Settings, Instructions, Builder, Synth}
 
--- what two filled options hold
+-- the value of an option, or this one if it has none
 abbrev inner : {A : Type 0} → A → Option A → A
 inner d None = d
 inner d (Some x) = x
@@ -26,7 +26,7 @@ some_same a b e = ap (inner a) e
 abbrev pub range : Range
 range = record { least = 0; most = 4294967295 }
 
--- ---- the numbers behind a name
+-- ---- the numbers after a name
 
 pub no_numbers : AreNumbersIn [] []
 no_numbers = record { count = refl; numbers = λ k r word less at word_at. absurd (omega (arith, less)) }
@@ -40,7 +40,7 @@ one_place n few (suc k) r word less at word_at = absurd (omega (arith, less))
 one_number : (n : ℕ) → n < 2 ^ 32 → AreNumbersIn (range ∷ []) (decimal n ∷ [])
 one_number n few = record { count = refl; numbers = one_place n few }
 
--- what stands behind a name with one number
+-- what stands after a name with one number
 number_behind : (behind : List (List ℕ)) → AreNumbersIn (range ∷ []) behind → (n : ℕ) × (n < 2 ^ 32) × (behind ≡ decimal n ∷ [])
 number_behind [] h = absurd (omega (arith, h.count))
 number_behind (word ∷ []) h =
@@ -93,7 +93,7 @@ others (x ∷ entries) (suc place) name e (suc k) entry below at =
     others entries place name (and_parts (is_other name x) (list_all (is_other name) (take place entries)) e).1 k
     entry (omega (arith, below)) at
 
--- the entries have one of the command, and none before it has its name
+-- the entries have one for the command, and none before it has its name
 pub record HaveEntry (entries : List CommandForm) (c : Command) : Type 0 where
   pub place : ℕ
   pub entry : CommandForm

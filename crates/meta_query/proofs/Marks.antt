@@ -6,7 +6,7 @@ use Rattle.meta_lists.specs.First.{IsFirst}
 use Rattle.meta_lists.proofs.First.{one_first}
 use Rattle.meta_query.specs.Recheck.{mark, BeginsLine, IsMarkAt, IsCut}
 
--- behind the place of a mark there is room for it
+-- after the place of a mark there is room for it
 pub mark_within : (input : List ℕ) (at : ℕ) → IsMarkAt input at → at + 12 ≤ length input
 mark_within input at h =
     let room : length (drop at input) ≡ 12 + length h.behind = ap length h.is ∙ length-append mark h.behind in

@@ -1,4 +1,4 @@
--- A command answers an input with one output at most.
+-- A command answers an input with at most one output.
 use Rattle.std.proofs.Common.{◌≡◌, inl, inr, true, false, ℕ, List, [], ◌∷◌, ◌++◌, sym, ap, ◌∙◌, subst}
 use Rattle.meta_typevar.specs.Registry.{HoldTypeSets}
 use Rattle.meta_inst.specs.InstructionSet.{InstructionSet}
@@ -21,7 +21,7 @@ use Rattle.meta_query.specs.Synthesis.{IsSynthOutput}
 use Rattle.meta_query.specs.Run.{IsBuiltText, IsOutputOf}
 use Rattle.meta_query.proofs.Marks.{same_cut}
 
--- ---- `recheck`, where a text reads as one
+-- ---- `recheck`, if a text reads as at most one
 
 module _ (one_read : (text : List ℕ) (t u : WholeTables) → Reads text t → Reads text u → t ≡ u) where
   one_told : (line : List ℕ) (t : WholeTables) (queries a b : List ℕ) → IsTold line t queries a → IsTold line t queries b → a ≡ b
@@ -49,7 +49,7 @@ module _ (one_read : (text : List ℕ) (t u : WholeTables) → Reads text t → 
       one_answer_by tables g.text g.queries a b
       (subst (λ t. IsAnswerBy tables t g.queries a) cut.0 (subst (λ q. IsAnswerBy tables h.text q a) cut.1 h.answer)) g.answer
 
--- ---- `synth`, where a number has one list of declarations, whose variables have sets of types, and these have one table and one line
+-- ---- `synth`, if a number has one list of declarations, whose variables have type sets, and these have one table and one line
 
 module _ (one_tables : (d : Declared) (t u : WholeTables) → HoldTypeSets d.set.vars → AreWholeTablesOf d t
     → AreWholeTablesOf d u → t ≡ u) where
@@ -65,7 +65,7 @@ module _ (one_tables : (d : Declared) (t u : WholeTables) → HoldTypeSets d.set
       (subst (λ (d : Declared). IsSummaryOf n d.set h.tables.opcodes h.line) same h.is_summary) in
       h.is ∙ ap (λ l. l ++ 10 ∷ []) (one_summary n g.declared.set g.tables.opcodes h.line g.line summary g.is_summary) ∙ sym g.is
 
-  -- ---- each command, where besides what is built of declarations is one
+  -- ---- each command, if besides there is one of what is built of declarations
 
   module _ (one_query : (d : Declared) (input a b : List ℕ) → AreValid d → IsOutput d input a → IsOutput d input b → a ≡ b)
       (one_recheck_of : (t : WholeTables) (input a b : List ℕ) → IsRecheckOf t input a → IsRecheckOf t input b → a ≡ b)

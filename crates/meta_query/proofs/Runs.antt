@@ -10,7 +10,7 @@ use Rattle.meta_query.specs.declared.command.Command.{Command}
 use Rattle.meta_query.specs.Run.{IsOutputOf, has_input, HasInput, WritesText}
 use Rattle.meta_query.proofs.Commands.{same_command}
 
--- what isn't so is false
+-- if a test isn't true, it is false
 is_false : (b : Bool) → (b ≡ true → ⊥) → b ≡ false
 is_false true never = absurd (never refl)
 is_false false never = refl

@@ -13,7 +13,7 @@ use Rattle.meta_cursor.specs.Spans.{lacks, is_nothing, is_line}
 use Rattle.meta_query.specs.Recheck.{mark, BeginsLine, IsMarkAt, IsCut}
 use Rattle.meta_query.proofs.Marks.{mark_within, cut_at}
 
--- whatever stands behind the text, a line begins there, and the mark stands at no place of the text
+-- whatever comes after the text, a line begins there, and the mark stands at no place of the text
 pub record IsUnmarked (text : List ℕ) : Type 0 where
   pub begins : (more : List ℕ) → BeginsLine (text ++ more) (length text)
   pub no_mark : (more : List ℕ) (at : ℕ) → at < length text → IsMarkAt (text ++ more) at → ⊥
@@ -21,7 +21,7 @@ pub record IsUnmarked (text : List ℕ) : Type 0 where
 pub unmarked_none : IsUnmarked []
 unmarked_none = record { begins = λ more. inl refl; no_mark = λ more at within h. absurd (omega (arith, within)) }
 
--- ---- one text behind another
+-- ---- one text after another
 
 -- what stands before where a line begins doesn't matter, but for the byte before it
 begins_behind : (a text : List ℕ) (at : ℕ) → BeginsLine (a ++ text) (length a) → BeginsLine text at → BeginsLine (a ++ text) (length a + at)
@@ -42,7 +42,7 @@ mark_ahead : (a text : List ℕ) (at : ℕ) → IsMarkAt (a ++ text) (length a +
 mark_ahead a text at h =
     record { begins = begins_ahead a text at h.begins; behind = h.behind; is = sym (drop_ahead a text at) ∙ h.is }
 
--- so two of them are one
+-- two such texts, one after the other, are such a text
 pub unmarked_both : (a b : List ℕ) → IsUnmarked a → IsUnmarked b → IsUnmarked (a ++ b)
 unmarked_both a b one other = record { begins = begins; no_mark = no_mark }
   where

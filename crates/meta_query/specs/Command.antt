@@ -15,7 +15,7 @@ command_name Instructions = codes "instructions"
 command_name Builder = codes "builder"
 command_name (Synth n) = codes "synth"
 
--- the words behind the name: the number in decimal, where the command has one
+-- the words after the name: the number in decimal, if the command has one
 abbrev pub number_words : Command → List (List ℕ)
 number_words Query = []
 number_words Recheck = []
@@ -26,11 +26,11 @@ number_words Instructions = []
 number_words Builder = []
 number_words (Synth n) = decimal n ∷ []
 
--- the words of a command: its name and what stands behind that
+-- the words of a command: its name and the words after it
 abbrev pub command_words : Command → List (List ℕ)
 command_words command = command_name command ∷ number_words command
 
--- the number of a command, where it has one, has 32 bits
+-- the number of a command, if it has one, has 32 bits
 abbrev pub HasNumber : Command → Type 0
 HasNumber Query = ⊤
 HasNumber Recheck = ⊤

@@ -1,6 +1,6 @@
 -- What `recheck` reads and answers.
---     IsCut input text queries              the input is a text and the queries behind it
---     IsAnswerBy tables text queries out    what is said of the text beside these tables, and the answers of the tables that it reads as
+--     IsCut input text queries              the input is a text and the queries after it
+--     IsAnswerBy tables text queries out    how the text compares with these tables, and the answers of the tables that it reads as
 --     IsRecheckOf tables input out          the output for the whole input
 use Rattle.std.specs.Prelude.{◌≡◌, ◌≢◌, ℕ, ◌+◌, ◌⊎◌, Bool, true, false, List, [], ◌∷◌, ◌++◌, length, take, drop, slice_get, Some, codes}
 use Rattle.meta_lists.specs.First.{IsFirst}
@@ -19,13 +19,13 @@ mark = codes "// Queries." ++ 10 ∷ []
 abbrev pub BeginsLine : List ℕ → ℕ → Type 0
 BeginsLine input at = (at ≡ 0) ⊎ ((before : ℕ) × (at ≡ before + 1) × (slice_get input before ≡ Some 10))
 
--- at the place stands a line that is the mark
+-- a line that is the mark stands at the place
 pub record IsMarkAt (input : List ℕ) (at : ℕ) : Type 0 where
   pub begins : BeginsLine input at
   pub behind : List ℕ
   pub is : drop at input ≡ mark ++ behind
 
--- the text ends before the first mark, and the queries are what stands behind it
+-- the text ends before the first mark, and the queries are what stands after it
 pub record IsCutAt (input : List ℕ) (at : ℕ) (text queries : List ℕ) : Type 0 where
   pub first : IsFirst (IsMarkAt input) at
   pub text_is : text ≡ take at input
@@ -43,12 +43,12 @@ IsCut input text queries = ((at : ℕ) × IsCutAt input at text queries) ⊎ IsU
 
 -- ---- what is answered
 
--- what is said of tables that were read: that they are the ones of the declarations, or others
+-- the line on tables that were read: they are those of the declarations, or others
 abbrev pub sameness_line : Bool → List ℕ
 sameness_line true = codes "same" ++ 10 ∷ []
 sameness_line false = codes "different" ++ 10 ∷ []
 
--- the line, and behind it what the tables answer to the lines of the queries, by the tables alone
+-- the line, and after it what the tables answer to the lines of the queries, by the tables alone
 pub record IsTold (line : List ℕ) (t : WholeTables) (queries out : List ℕ) : Type 0 where
   pub answers : List ℕ
   pub are_answers : AreWrittenAnswers (IsTableReply t) (lines_of queries) answers
@@ -66,8 +66,8 @@ pub record IsNoTables (text out : List ℕ) : Type 0 where
   pub reads_none : (t : WholeTables) → Reads text t → ⊥
   pub is : out ≡ refused_line
 
--- `same` and the answers where the text reads as the tables, `different` and the answers of the tables that were read where it reads
--- as others, and `refused` alone where it reads as none
+-- `same` and the answers if the text reads as the tables; `different` and the answers of the tables that were read if it reads as others;
+-- `refused` alone if it reads as no tables
 abbrev pub IsAnswerBy : WholeTables → List ℕ → List ℕ → List ℕ → Type 0
 IsAnswerBy tables text queries out = (Reads text tables × IsTold (sameness_line true) tables queries out)
     ⊎ (AreOthersTold tables text queries out ⊎ IsNoTables text out)

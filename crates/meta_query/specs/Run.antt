@@ -22,14 +22,15 @@ use Rattle.meta_query.specs.Synthesis.{IsSynthOutput}
 abbrev pub IsBuiltText : (BuiltDeclarations → List ℕ) → Declared → List ℕ → Type 0
 IsBuiltText text d output = (b : BuiltDeclarations) × AreBuilt b × (b.declared ≡ d) × (output ≡ text b)
 
--- the output of `recheck`, beside the tables of the declarations
+-- the output of `recheck`, which compares with the tables of the declarations
 abbrev pub IsRechecked : Declared → List ℕ → List ℕ → Type 0
 IsRechecked d input output = (t : WholeTables) × AreWholeTablesOf d t × IsRecheckOf t input output
 
--- The output of a command over declarations: of `query` the answer to each line of the input, of `recheck` what is said of the text
--- and the answers of the tables that were read, of `tables` the text of the tables of the declarations, of `types` the text of the
--- types, of `settings` that of their groups of settings, of `instructions` and `builder` the texts of what is built of them, and of
--- `synth` the summary of other declarations, which are made from its number. No other command than the first two has an input.
+-- The output of a command over declarations. For `query` it is the answer to each line of the input. For `recheck` it says how the text
+-- compares, and gives the answers of the tables that were read. For `tables` it is the text of the tables of the declarations, for `types`
+-- the text of the types, for `settings` the text of the groups of settings, and for `instructions` and `builder` the texts of what is built
+-- of the declarations. For `synth` it is the summary of other declarations, which are made from its number. Only the first two commands
+-- have an input.
 abbrev pub IsOutputOf : Command → Outputs
 IsOutputOf Query d input output = IsOutput d input output
 IsOutputOf Recheck d input output = IsRechecked d input output

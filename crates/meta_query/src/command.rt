@@ -5,12 +5,12 @@ ghost use Rattle.meta_query.specs.Command.{command_name, number_words, AreWordsO
 use super::synthesis::number_in;
 use meta_types::Text;
 
-/// What `run` is asked to do (this project's own).
+/// What `run` is asked to do.
 #[derive(Clone, Copy, Debug, PartialEq, Eq)]
 pub enum Command {
     /// `query`: to answer each line of the input.
     Query,
-    /// `recheck`: to read the text of tables in the input, and to answer the queries behind it by the tables that were read.
+    /// `recheck`: to read the text of tables in the input, and to answer the queries after it by the tables that were read.
     Recheck,
     /// `tables`: to write the table text of the declarations.
     Tables,
@@ -22,12 +22,12 @@ pub enum Command {
     Instructions,
     /// `builder`: to write the text of the builder of instructions.
     Builder,
-    /// `synth N`: to write in one line what the tables of the declarations hold that are made from the number.
+    /// `synth N`: to write in one line what the tables of the declarations hold that are made from the number N.
     Synth(u32),
 }
 
 impl Command {
-    /// The command that the words are, and `None` exactly where they are none. Each command is one word, but for `synth N`: its number
+    /// The command of the words. It is `None` exactly if the words are no command. Each command is one word, but for `synth N`: its number
     /// is decimal, has no zero before it, and is at most 4,294,967,295.
     pub fn parse(words: &[Text]) -> Option<Command>
         ensures some { IfSome result (λ c. AreWordsOf c words.now) }

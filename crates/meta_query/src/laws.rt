@@ -16,13 +16,13 @@ use meta_gen::one_table_of_declarations;
 use meta_synth::{one_summary, one_synth};
 use meta_table_reader::a_text_reads_as_one;
 
-/// Words are those of one command at most.
+/// Words are those of at most one command.
 pub fn one_command()
     ensures { (c d : Command) (words : List (List ℕ)) → AreWordsOf c words → AreWordsOf d words → c ≡ d }
 {}
 
-/// A command answers an input over valid declarations with one output at most, since the tables of declarations are one, and so is
-/// what is built of them. The variables have sets of types, as those of `Declarations` always do.
+/// A command answers an input over valid declarations with at most one output, since declarations determine their tables and what is built
+/// of them. The type variables must have type sets, as those of `Declarations` always do.
 pub fn one_output_of_a_command()
     ensures { (d : Declared) (c : Command) (input a b : List ℕ) → AreValid d → HoldTypeSets d.set.vars
         → IsOutputOf c d input a → IsOutputOf c d input b → a ≡ b }
@@ -41,8 +41,8 @@ pub fn one_cut()
         → (text ≡ other_text) × (queries ≡ other_queries) }
 {}
 
-/// No line of the text of well-formed tables is the line before the queries, in any version: where that line and queries stand behind the
-/// text, the input is cut there, and the text alone has no queries.
+/// No line of the text of well-formed tables, in any version, is the line before the queries. So an input of that text, the line and
+/// queries is cut there, and the text alone has no queries.
 pub fn text_of_tables_stays_whole()
     ensures behind { (v : Version) (t : WholeTables) (queries : List ℕ) → IsWellFormed t
         → IsCut (table_text v t ++ (mark ++ queries)) (table_text v t) queries }

@@ -1,8 +1,8 @@
 //! The commands over declarations: `run` reads the input of a command and writes its output.
 //!
-//! `query` answers each line of the input, `recheck` reads the text of tables and answers by them, `synth` tells of the tables of
-//! declarations that are made from a number, and the others write a text. What tables answer is of `meta_answers`, of whose names all
-//! but `answers_mean` stand here too.
+//! `query` answers each line of the input. `recheck` reads the text of tables and answers by them. `synth` sums up the tables of
+//! declarations that are made from a number. The others write a text. What tables answer is in `meta_answers`; all its names but
+//! `answers_mean` are also here.
 #![tactic(auto)]
 
 mod command;

@@ -41,14 +41,15 @@ fn mark_in(input: &[u8]) -> Option<usize>
     None
 }
 
-/// The text in an input of `recheck`, and the queries behind it.
+/// The text in an input of `recheck`, and the queries after it.
 #[derive(Clone, Copy)]
 pub(crate) struct Cut<'a> {
     pub(crate) text: &'a [u8],
     pub(crate) queries: &'a [u8],
 }
 
-/// Cuts an input of `recheck` at the first line `// Queries.`, which has to end with LF alone. Without one all of it is the text.
+/// Cuts an input of `recheck` at the first line `// Queries.`, which has to end with LF alone. If there is no such line, the whole input is
+/// the text.
 pub(crate) fn cut_queries(input: &[u8]) -> Cut<'_>
     ensures { IsCut input.now result.text.now result.queries.now }
 {

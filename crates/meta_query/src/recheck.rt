@@ -7,14 +7,14 @@ use meta_gen::Tables;
 use meta_table_reader::{TextError, read_tables, refused};
 use std::alloc::{AllocError, Global};
 
-/// Whether the tables that were read are the ones that they are compared with.
+/// Whether the tables that were read are equal to these.
 fn is_same(read: &Tables, tables: &Tables) -> bool
     ensures same { IsTrue result ↔ (read.now ≡ tables.now) }
 {
     read.same(tables)
 }
 
-/// What is said of tables that were read: that they are the ones that they were compared with, or others.
+/// The line on tables that were read: they are the ones that they were compared with, or others.
 fn line_of(same: bool) -> &'static str
     ensures { result.now ≡ sameness_line same }
 {
@@ -34,8 +34,8 @@ fn told(alloc: Global, line: &str, tables: &Tables, queries: &[u8]) -> Result<St
     Ok(out)
 }
 
-/// Reads the text of tables and the queries behind it: says whether the tables that were read are these, and answers the queries by
-/// the tables that were read. A text that reads as no tables is refused, and then nothing is answered.
+/// Reads the text of tables and the queries after it. Says whether the tables that were read are these, and answers the queries by the
+/// tables that were read. A text that reads as no tables is refused, and then nothing is answered.
 pub(crate) fn recheck(alloc: Global, tables: &Tables, input: &[u8]) -> Result<String, AllocError>
     ensures { IfOk result (λ out. IsRecheckOf tables.now input.now (string_bytes out)) }
 {

@@ -11,7 +11,6 @@ use meta_text::{Sink, Source};
 use meta_types::Text;
 use std::alloc::Global;
 
-/// Runs the command that the words are.
 fn run_words<S: Source, K: Sink>(
     alloc: Global,
     words: &[Text],
@@ -28,15 +27,14 @@ fn run_words<S: Source, K: Sink>(
     run_answerer(alloc, &command, declarations, source, sink)
 }
 
-/// Runs a command over declarations: reads the source, and writes to the sink (this project's own). The words are those
-/// after the program's name: `query` answers each line of the input as the declarations mean; `recheck` reads the text of tables, says
-/// whether they are those of the declarations, and answers the queries behind it by the tables that were read; `tables` writes the
-/// text of the tables, `types` that of the types, `settings` that of the groups of settings, `instructions` that of the instructions,
-/// and `builder` that of their builder; `synth N` writes what the tables of the declarations hold that are made from the number.
+/// Runs a command over declarations: reads the source, and writes to the sink. The words are those after the program's name. `query`
+/// answers each line of the input as the declarations mean. `recheck` reads the text of tables, says whether they are those of the
+/// declarations, and answers the queries after it by the tables that were read. `tables` writes the text of the tables, `types` that of the
+/// types, `settings` that of the groups of settings, `instructions` that of the instructions, and `builder` that of their builder. `synth
+/// N` writes what the tables of the declarations hold that are made from the number N.
 ///
-/// The order is: the words; the declarations, which are refused by the first fault that they show; for `query` and `recheck` the
-/// whole input; all that is answered, in memory; the writes. `Status` says how it ended, and `OutOfMemory` may come in any case but
-/// `Usage`.
+/// The order is: the words; the declarations, which are refused by their first fault if they have one; for `query` and `recheck` the whole
+/// input; the whole answer, in memory; the writes. The answer says how the run ended, and `OutOfMemory` may come in any case but `Usage`.
 pub fn run<S: Source, K: Sink>(
     alloc: Global,
     words: &[Text],
@@ -44,8 +42,8 @@ pub fn run<S: Source, K: Sink>(
     source: &mut S,
     sink: &mut K,
 ) -> Ending
-    // Each query over valid declarations is answered as they mean, and each table text is compared with their tables and its queries
-    // answered by the tables that it reads as; and their texts are written.
+    // Over valid declarations each query is answered as they mean. Each table text is compared with their tables, and its queries are
+    // answered by the tables that it reads as. The texts of the declarations are written.
     ensures headline { (command : Command) → HasInput command → AreWordsOf command words.now
         → WritesOutput S.left S.faults K.taken K.faults declarations.now source.old source.new sink.old sink.new true
         (IsOutputOf command) result }
@@ -53,8 +51,8 @@ pub fn run<S: Source, K: Sink>(
         → WritesOutput S.left S.faults K.taken K.faults declarations.now source.old source.new sink.old sink.new false
         (IsOutputOf command) result }
 
-    // What was read and written, by how it ended, and what is done where nothing fails: each field is a fact of the call. It rejects
-    // nothing.
+    // What was read and written, by how the run ended, and what is done where nothing fails. Each field is a fact of the call. No input is
+    // rejected.
     ensures runs { Runs S.left S.faults K.taken K.faults declarations.now source.old source.new sink.old sink.new
         (λ command. AreWordsOf command words.now) has_input (λ command. never_rejecting (IsOutputOf command)) result }
     ensures never_rejected { result ≢ Ending.Rejected }

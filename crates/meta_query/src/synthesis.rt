@@ -9,7 +9,7 @@ use meta_types::Text;
 use meta_words::number_u32;
 use std::alloc::{AllocError, Global};
 
-/// The number that a word writes: decimal, with no zero before it, at most 4,294,967,295.
+/// The number that a word writes: decimal, with no zero before it, at most 4,294,967,295. `None` if it writes no such number.
 pub(crate) fn number_in(word: &Text) -> Option<u32>
     ensures some { IfSome result (λ n. word.now ≡ decimal n) }
     ensures none { IfNone result ((n : ℕ) → n < 2 ^ 32 → word.now ≢ decimal n) }
@@ -17,7 +17,7 @@ pub(crate) fn number_in(word: &Text) -> Option<u32>
     number_u32(word.as_bytes())
 }
 
-/// The summary of the tables of these declarations, which are those of the number, with LF.
+/// The summary of the tables of these declarations, with LF. They are made from the number `n`.
 fn summary_line(alloc: Global, n: u32, declarations: &Declarations) -> Result<String, AllocError>
     requires { IsSynth n declarations.now }
     ensures { IfOk result (λ out. IsSynthOutput n (string_bytes out)) }
@@ -31,7 +31,7 @@ fn summary_line(alloc: Global, n: u32, declarations: &Declarations) -> Result<St
     Ok(line)
 }
 
-/// The summary of the tables of the declarations of a number, with LF.
+/// The summary of the tables of the declarations that are made from a number, with LF.
 pub(crate) fn synth_line(alloc: Global, n: u32) -> Result<String, AllocError>
     ensures { IfOk result (λ out. IsSynthOutput n (string_bytes out)) }
 {

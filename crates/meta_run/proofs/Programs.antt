@@ -11,7 +11,7 @@ use Rattle.meta_run.specs.Run.{Texts, Outputs, never_rejecting, NeverRises, IsAn
 use Rattle.meta_run.specs.Run.{AnswersInput, WritesOutput, RefusesDeclarations, Completes, Runs}
 use Rattle.meta_run.proofs.Runs as lemma
 
--- where there are no words, there is one way to mean that
+-- without words there is one meaning of type ⊤
 pub no_other : {A : Type 0} (v w : ⊤) → A → A → v ≡ w
 no_other v w a b = refl
 
@@ -21,7 +21,7 @@ module _ {S K W : Type 0} {left : S → Option (List ℕ)} {reads : S → ℕ} {
   abbrev DidBy : W → Ending → Type 0
   DidBy w other = Did left reads taken writes d s s' k k' (has_input w) (texts w) other
 
-  -- what follows from either
+  -- what holds if the words mean something, and also if they mean nothing, holds
   known : {X : Type 0} → ((w : W) → Means w → Ran left reads taken writes d s s' k k' (has_input w) (texts w) ending → X)
       → (((w : W) → Means w → ⊥) → ending ≡ Usage → s' ≡ s → k' ≡ k → X) → X
   known {X} meant nothing = by run
@@ -68,7 +68,7 @@ module _ {S K W : Type 0} {left : S → Option (List ℕ)} {reads : S → ℕ} {
   pub never_rejects : ((w : W) (input text : List ℕ) → texts w d input true text → ⊥) → ending ≢ Rejected
   never_rejects none e = let (w, means, h) = rejected e in none w h.input h.text h.answers
 
-  -- ---- what is as it was
+  -- ---- what stays as it was
 
   pub else_within : ending ≢ TooLong → GaveAtMost longest_input (left s) (left s')
   else_within other = known (λ w means ran. ran.else_within other)
@@ -105,7 +105,7 @@ module _ {S K W : Type 0} {left : S → Option (List ℕ)} {reads : S → ℕ} {
   pub unfailing_sink : NeverRises writes → ending ≢ WriteFault
   unfailing_sink never e = let (w, means, rose) = write_fault e in never k k' rose
 
-  -- ---- where nothing fails: the words mean one thing at most, and valid declarations show no fault
+  -- ---- where nothing fails: the words mean at most one thing, and valid declarations have no fault
 
   module _ (one : (v w : W) → Means v → Means w → v ≡ w) (no_fault : (e : DefinitionError) → AreValid d → ShowsFirst d e
       → ⊥) (w : W) (means : Means w) where

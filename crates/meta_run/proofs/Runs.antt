@@ -1,4 +1,4 @@
--- From how a run ended to what it did.
+-- What a run did, by how it ended.
 use Rattle.std.proofs.Common.{◌≡◌, ◌≢◌, ◌<◌, ◌≤◌, inl, inr, ℕ, Bool, true, false, List, [], ◌++◌, length, length-append, Option, None, Some}
 use Rattle.std.proofs.Common.{refl, sym, ap, ◌∙◌, subst, arith}
 use Rattle.std.proofs.lemmas.List.{append-nil}
@@ -11,7 +11,7 @@ use Rattle.meta_run.specs.declared.ending.Ending.TheVariants.{Done, Refused, Usa
 use Rattle.meta_run.specs.Run.{refusal, Texts, IsInput, IsAnsweredWhole, Refuses, Did, Ran, IsGiven, AnswersInput, RefusesDeclarations}
 use Rattle.meta_run.specs.Run.{Completes}
 
--- what was read is all that was left, where that was told and nothing is left now
+-- what was read is all that was left, if contracts see the bytes and nothing is left now
 read_all : (input bytes : List ℕ) (left' : Option (List ℕ)) → Some input ≡ with_front bytes left' → NothingLeft left' → bytes ≡ input
 read_all input bytes None e end = absurd (cc)
 read_all input bytes (Some rest) e end =
@@ -32,7 +32,7 @@ gave_within input left' few h = within left' h.given
         let m = more in
         omega (arith, ap length whole, length-append h.bytes rest)
 
--- what wasn't read stands there
+-- if nothing was read, no more was given than may be
 pub gave_nothing : (left : Option (List ℕ)) → GaveAtMost longest_input left left
 gave_nothing None = record { bytes = []; given = refl; within = omega arith }
 gave_nothing (Some rest) = record { bytes = []; given = refl; within = omega arith }
@@ -45,7 +45,7 @@ module _ {S K : Type 0} (left : S → Option (List ℕ)) (reads : S → ℕ) (ta
   given true input bytes g h = read_all input bytes (left s') (sym g.0 ∙ h.read) h.end
   given false input bytes g h = h.0 ∙ sym g
 
-  -- a text that was written whole answers it
+  -- a text that was written whole answers what was given
   answered : (has_input is_rejection : Bool) → IsAnsweredWhole left reads taken writes d s s' k k' has_input texts is_rejection
       → (input before : List ℕ) → IsGiven left reads taken writes d s s' k k' has_input input → taken k ≡ Some before
       → (text : List ℕ) × texts d input is_rejection text × (taken k' ≡ Some (before ++ text))
@@ -53,13 +53,13 @@ module _ {S K : Type 0} (left : S → Option (List ℕ)) (reads : S → ℕ) (ta
       let all = given has_input input h.input g h.read in
       (h.text, subst (λ i. texts d i is_rejection h.text) all h.answers, h.took ∙ ap (λ t. with_more t h.text) taken_is)
 
-  -- nothing that is given fails to be read
+  -- for an input that is given no read fails
   no_read_fault : (has_input : Bool) (input : List ℕ) → IsGiven left reads taken writes d s s' k k' has_input input → has_input ≡ true
       → Rose (reads s) (reads s') → ⊥
   no_read_fault true input g e rose = g.2 rose
   no_read_fault false input g e rose = absurd (cc)
 
-  -- or is too long
+  -- an input that is given isn't too long
   not_too_long : (has_input : Bool) (input : List ℕ) → IsGiven left reads taken writes d s s' k k' has_input input → has_input ≡ true
       → GaveMore longest_input (left s) (left s') → ⊥
   not_too_long true input g e more = gave_within input (left s') g.1 (subst (λ l. GaveMore longest_input l (left s')) g.0 more)
@@ -109,7 +109,7 @@ module _ {S K : Type 0} (left : S → Option (List ℕ)) (reads : S → ℕ) (ta
   complete has_input no_fault OutOfMemory did valid no_read no_write = inr (inl refl)
   complete has_input no_fault TooLong did valid no_read no_write = inr (inr (refl, did.0, did.2))
 
-  -- what a run did that ended so
+  -- what a run did, by how it ended
   pub at_ending : (has_input : Bool) (ending other : Ending) → ending ≡ other
       → Did left reads taken writes d s s' k k' has_input texts ending → Did left reads taken writes d s s' k k' has_input texts other
   at_ending has_input ending other same did = subst (λ e. Did left reads taken writes d s s' k k' has_input texts e) same did

@@ -14,11 +14,11 @@ code_of OutOfMemory = 5
 code_of TooLong = 6
 code_of Rejected = 7
 
--- after these nothing was written
+-- after these endings nothing was written
 abbrev pub WritesNothing : Ending → Type 0
 WritesNothing ending = (ending ≡ Usage) ⊎ ((ending ≡ ReadFault) ⊎ ((ending ≡ TooLong) ⊎ (ending ≡ OutOfMemory)))
 
--- how a run ends whose text was written whole, by whether that is a rejection
+-- the ending of a run whose text was written whole; the mark says whether the text is a rejection
 abbrev pub written_as : Bool → Ending
 written_as false = Done
 written_as true = Rejected

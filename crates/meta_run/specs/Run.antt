@@ -1,9 +1,9 @@
 -- What a run over declarations does, by how it ended.
 --     Did .. ending          what was read and written
---     Ran .. ending          that, and what is so of each run
---     IsRun Means .. ending  the same of a program with words, and IsWordlessRun of one without
+--     Ran .. ending          that, and what holds of each run
+--     IsRun Means .. ending  the same for a program with words, and IsWordlessRun for one without
 --     AnswersInput, WritesOutput, RefusesDeclarations, Completes      what a run does where nothing fails
---     Runs Means .. ending   all of this, each fact by its name, of a program with words, and RunsWordless of one without
+--     Runs Means .. ending   all of this, each fact by its name, for a program with words, and RunsWordless for one without
 use Rattle.std.specs.Prelude.{◌≡◌, ◌≢◌, ℕ, ◌≤◌, ◌⊎◌, ⊤, Bool, true, false, List, [], ◌∷◌, ◌++◌, length, codes, Option, Some}
 use Rattle.meta_types.specs.Fault.{line_of}
 use Rattle.meta_types.specs.declared.fault.DefinitionError.{DefinitionError}
@@ -14,11 +14,11 @@ use Rattle.meta_run.specs.declared.ending.Ending.{Ending}
 use Rattle.meta_run.specs.declared.ending.Ending.TheVariants.{Done, Refused, Usage, ReadFault, WriteFault, OutOfMemory, TooLong, Rejected}
 use Rattle.meta_run.specs.Ending.{WritesNothing, written_as}
 
--- what is written where declarations are refused: `refused: `, the fault and LF
+-- the text that is written if declarations are refused: `refused: `, the fault and LF
 abbrev pub refusal : DefinitionError → List ℕ
 refusal fault = codes "refused: " ++ (line_of fault ++ 10 ∷ [])
 
--- The texts that answer an input over declarations, each as an answer or, where the mark is true, as a rejection.
+-- The texts that answer an input over declarations, each as an answer or, if the mark is true, as a rejection.
 abbrev pub Texts : Type 1
 Texts = Declared → List ℕ → Bool → List ℕ → Type 0
 
@@ -26,18 +26,18 @@ Texts = Declared → List ℕ → Bool → List ℕ → Type 0
 abbrev pub Outputs : Type 1
 Outputs = Declared → List ℕ → List ℕ → Type 0
 
--- each of these answers, and no text is a rejection
+-- these texts, each as an answer, and none as a rejection
 abbrev pub never_rejecting : Outputs → Texts
 never_rejecting outputs d input false text = outputs d input text
 never_rejecting outputs d input true text = ⊥
 
--- a count doesn't rise, whatever happens
+-- a count that never rises
 abbrev pub NeverRises : {X : Type 0} → (X → ℕ) → Type 0
 NeverRises count = (before after : _) → Rose (count before) (count after) → ⊥
 
 -- ---- the declarations are refused
 
--- the declarations are refused by the first fault that they show, and the sink took the line that says so
+-- the declarations are refused by their first fault, and the sink took the line that says so
 pub record IsRefusedWhole (d : Declared) (taken taken' : Option (List ℕ)) : Type 0 where
   pub fault : DefinitionError
   pub first : ShowsFirst d fault
@@ -69,14 +69,14 @@ pub record IsReadWhole {S : Type 0} (left : S → Option (List ℕ)) (s s' : S) 
   pub end : NothingLeft (left s')
   pub within : length input ≤ longest_input
 
--- the input of a run that has one, which is the mark, is all that the source had left; of others it is nothing, and the source isn't read
+-- if the mark says that a run has an input, it is all that the source had left; otherwise it is empty, and the source isn't read
 abbrev pub IsInput : {S : Type 0} → (S → Option (List ℕ)) → Bool → S → S → List ℕ → Type 0
 IsInput left true s s' input = IsReadWhole left s s' input
 IsInput left false s s' input = (input ≡ []) × (s' ≡ s)
 
 -- ---- the input is answered
 
--- a source and a sink, by what they tell, before and after a run over declarations
+-- a source and a sink, by what contracts see of them, before and after a run over declarations
 module _ {S K : Type 0} (left : S → Option (List ℕ)) (reads : S → ℕ) (taken : K → Option (List ℕ)) (writes : K → ℕ)
     (d : Declared) (s s' : S) (k k' : K) where
   -- the declarations are valid, the input was read, and the sink took a text whole that answers it
@@ -98,12 +98,12 @@ module _ {S K : Type 0} (left : S → Option (List ℕ)) (reads : S → ℕ) (ta
     pub answers : texts d input is_rejection text
     pub took : TookPart text (taken k) (taken k')
 
-  -- The sink took a part of what was to be written, and not all: of the line that refuses the declarations, and then nothing was read,
-  -- or of a text that answers the input.
+  -- The sink took a part of the text, and not all of it: of the line that refuses the declarations, and then nothing was read, or of a text
+  -- that answers the input.
   abbrev pub IsCutShort : Bool → Texts → Type 0
   IsCutShort has_input texts = ((s' ≡ s) × IsRefusedInPart d (taken k) (taken k')) ⊎ IsAnsweredInPart has_input texts
 
-  -- What was read and written. The answerer has an input where the mark is true.
+  -- What was read and written, by how the run ended. The mark says whether the answerer has an input.
   abbrev pub Did : Bool → Texts → Ending → Type 0
   Did has_input texts Done = IsAnsweredWhole has_input texts false
   Did has_input texts Rejected = IsAnsweredWhole has_input texts true
@@ -114,8 +114,8 @@ module _ {S K : Type 0} (left : S → Option (List ℕ)) (reads : S → ℕ) (ta
   Did has_input texts OutOfMemory = k' ≡ k
   Did has_input texts TooLong = (has_input ≡ true) × AreValid d × GaveMore longest_input (left s) (left s') × (k' ≡ k)
 
-  -- and that no more was read than may be and no read failed, unless that is why it ended, that nothing was read where there is no
-  -- input, and that no count fell
+  -- the same; and unless the ending says so, no more was read than may be, and no read failed; without an input nothing was read; and no
+  -- count fell
   pub record Ran (has_input : Bool) (texts : Texts) (ending : Ending) : Type 0 where
     pub did : Did has_input texts ending
     pub else_within : ending ≢ TooLong → GaveAtMost longest_input (left s) (left s')
@@ -124,26 +124,26 @@ module _ {S K : Type 0} (left : S → Option (List ℕ)) (reads : S → ℕ) (ta
     pub read_counted : reads s ≤ reads s'
     pub write_counted : writes k ≤ writes k'
 
-  -- Of a program whose words mean one of W: the run is that of what they mean. Where they mean nothing it is a usage error, exactly
-  -- then, and nothing was read or written.
+  -- For a program whose words mean one of W: if they mean something, the run is that of what they mean. If they mean nothing, and only
+  -- then, it is a usage error, and nothing was read or written.
   abbrev pub IsRun : {W : Type 0} → (W → Type 0) → (W → Bool) → (W → Texts) → Ending → Type 0
   IsRun Means has_input texts ending =
       ((w : _) × Means w × Ran (has_input w) (texts w) ending)
       ⊎ (((w : _) → Means w → ⊥) × (ending ≡ Usage) × (s' ≡ s) × (k' ≡ k))
 
-  -- Of a program without words, which has an input: the run is that. Where there are words it is a usage error.
+  -- For a program without words, which has an input: the run is that. If there are words, it is a usage error.
   abbrev pub IsWordlessRun : List (List ℕ) → Texts → Ending → Type 0
   IsWordlessRun words texts ending = IsRun (λ (_ : ⊤). words ≡ []) (λ _. true) (λ _. texts) ending
 
   -- ---- where nothing fails
 
-  -- What is to be answered, where nothing fails: all that the source tells, at most the limit, or nothing.
+  -- What is to be answered, where nothing fails: all bytes that contracts see in the source, at most the limit, or no bytes.
   abbrev pub IsGiven : Bool → List ℕ → Type 0
   IsGiven true input = (left s ≡ Some input) × (length input ≤ longest_input) × (Rose (reads s) (reads s') → ⊥)
   IsGiven false input = input ≡ []
 
-  -- Where the declarations are valid, memory didn't run out and no write failed, the sink took exactly a text that answers what is
-  -- given, and the ending says which.
+  -- If the declarations are valid, memory didn't run out and no write failed, the sink took exactly a text that answers what is given, and
+  -- the ending says which.
   abbrev pub AnswersInput : Bool → Texts → Ending → Type 0
   AnswersInput has_input texts ending =
       AreValid d → ending ≢ OutOfMemory → (input before : List ℕ) → IsGiven has_input input → taken k ≡ Some before
@@ -151,23 +151,23 @@ module _ {S K : Type 0} (left : S → Option (List ℕ)) (reads : S → ℕ) (ta
       → (is_rejection : Bool) × (text : List ℕ) × texts d input is_rejection text × (ending ≡ written_as is_rejection)
       × (taken k' ≡ Some (before ++ text))
 
-  -- The same of a program that rejects nothing: the run is done, and the sink took exactly a text that answers.
+  -- The same for a program that rejects nothing: the run is done, and the sink took exactly a text that answers.
   abbrev pub WritesOutput : Bool → Outputs → Ending → Type 0
   WritesOutput has_input outputs ending =
       AreValid d → ending ≢ OutOfMemory → (input before : List ℕ) → IsGiven has_input input → taken k ≡ Some before
       → (Rose (writes k) (writes k') → ⊥)
       → (ending ≡ Done) × (text : List ℕ) × outputs d input text × (taken k' ≡ Some (before ++ text))
 
-  -- Where the declarations show a fault, memory didn't run out and no write failed, the declarations are refused, and the sink took
-  -- exactly the line that says so, by the first fault.
+  -- If the declarations have a fault, memory didn't run out and no write failed, the declarations are refused, and the sink took exactly
+  -- the line that says so, by the first fault.
   abbrev pub RefusesDeclarations : Ending → Type 0
   RefusesDeclarations ending =
       (e : DefinitionError) → ShowsFirst d e → ending ≢ OutOfMemory → (before : List ℕ) → taken k ≡ Some before
       → (Rose (writes k) (writes k') → ⊥)
       → (ending ≡ Refused) × (taken k' ≡ Some (before ++ refusal e))
 
-  -- Where the declarations are valid, and neither a read nor a write failed, a text was written whole, unless memory ran out, or
-  -- there is an input and the source gave more than the limit. That asks for no bytes to be told.
+  -- If the declarations are valid, and neither a read nor a write failed, a text was written whole, unless memory ran out, or there is an
+  -- input and the source gave more than the limit. This holds of any source and sink, not only of those in memory.
   abbrev pub Completes : Bool → Ending → Type 0
   Completes has_input ending =
       AreValid d → (Rose (reads s) (reads s') → ⊥) → (Rose (writes k) (writes k') → ⊥)
@@ -176,24 +176,24 @@ module _ {S K : Type 0} (left : S → Option (List ℕ)) (reads : S → ℕ) (ta
 
   -- ---- a program
 
-  -- A program whose words mean one of W, with an input where the mark is true of what they mean, ran, and ended so. Each field is a fact
+  -- A program whose words mean one of W ran, and ended so. It has an input if the mark is true for what they mean. Each field is a fact
   -- that follows from the first.
   pub record Runs {W : Type 0} (Means : W → Type 0) (has_input : W → Bool) (texts : W → Texts) (ending : Ending) : Type 0 where
     -- What was read and written, by how it ended.
     pub run : IsRun Means has_input texts ending
-    -- Over valid declarations what the words ask is answered, and others are refused.
+    -- Over valid declarations, what the words ask is answered. Other declarations are refused.
     pub answers : (w : W) → Means w → AnswersInput (has_input w) (texts w) ending
     pub refuses : (w : W) → Means w → RefusesDeclarations ending
     pub complete : (w : W) → Means w → Completes (has_input w) ending
-    -- The words decide whether it is a usage error.
+    -- The words decide whether the ending is a usage error.
     pub usage : ending ≡ Usage → (w : W) → Means w → ⊥
     pub no_words : ((w : W) → Means w → ⊥) → ending ≡ Usage
-    -- The words mean something at each other ending. The answer or the rejection was written whole, or the line that refuses.
+    -- At each other ending the words mean something. The answer or the rejection was written whole, or the line that refuses.
     pub done : ending ≡ Done → (w : W) × Means w × IsAnsweredWhole (has_input w) (texts w) false
     pub rejected : ending ≡ Rejected → (w : W) × Means w × IsAnsweredWhole (has_input w) (texts w) true
     pub refused : ending ≡ Refused → (w : W) × Means w × IsRefusedWhole d (taken k) (taken k')
-    -- A fault is told only where a read or a write failed, and an input is too long only where more than the limit was given. Where that
-    -- isn't told, no read failed, and no more was given.
+    -- A fault is an ending only where a read or a write failed, and a too long input only where more than the limit was given. At another
+    -- ending no read failed, and no more was given.
     pub read_fault : ending ≡ ReadFault → (w : W) × Means w × (has_input w ≡ true) × AreValid d × Rose (reads s) (reads s')
     pub else_no_fault : ending ≢ ReadFault → reads s' ≡ reads s
     pub write_fault : ending ≡ WriteFault → (w : W) × Means w × Rose (writes k) (writes k')
@@ -201,18 +201,18 @@ module _ {S K : Type 0} (left : S → Option (List ℕ)) (reads : S → ℕ) (ta
     pub too_long : ending ≡ TooLong
         → (w : W) × Means w × (has_input w ≡ true) × AreValid d × GaveMore longest_input (left s) (left s')
     pub else_within : ending ≢ TooLong → GaveAtMost longest_input (left s) (left s')
-    -- What is as it was: the sink where nothing was written; the source after a usage error, where the declarations are refused, and for
-    -- words that have no input. No count falls.
+    -- What stays as it was: the sink if nothing was written; the source after a usage error, if the declarations are refused, and for words
+    -- that have no input. No count falls.
     pub untouched : WritesNothing ending → k' ≡ k
     pub usage_unread : ending ≡ Usage → s' ≡ s
     pub refused_unread : ending ≡ Refused → s' ≡ s
     pub unread : (w : W) → Means w → has_input w ≡ false → s' ≡ s
     pub read_counted : reads s ≤ reads s'
     pub write_counted : writes k ≤ writes k'
-    -- A source that never fails is never said to, and neither is such a sink.
+    -- If the source never fails, the ending is no fault of it. The same holds for the sink.
     pub unfailing_source : NeverRises reads → ending ≢ ReadFault
     pub unfailing_sink : NeverRises writes → ending ≢ WriteFault
 
-  -- The same of a program without words, which has an input.
+  -- The same for a program without words, which has an input.
   abbrev pub RunsWordless : List (List ℕ) → Texts → Ending → Type 0
   RunsWordless words texts ending = Runs (λ (_ : ⊤). words ≡ []) (λ _. true) (λ _. texts) ending

@@ -5,28 +5,28 @@ ghost use Rattle.meta_declared.specs.AllDeclared.{Declared};
 use meta_declared::Built;
 use std::alloc::{AllocError, Global};
 
-/// A text that answers an input (this project's own).
+/// A text that answers an input.
 #[derive(Drop)]
 pub struct Answer {
-    /// What is written.
+    /// The text that is written.
     pub text: String,
     /// Whether the text says why the input is rejected.
     pub is_rejection: bool,
 }
 
-/// What a program answers its input with (this project's own).
+/// What answers the input of a program.
 pub trait Answerer {
-    // Whether there is an input. Where there is none, the source isn't read.
+    // Whether there is an input. If there is none, the source isn't read.
     ghost reads: { Self → Bool };
 
-    // The texts that answer an input over declarations, each as an answer or, where the mark is true, as a rejection.
+    // The texts that answer an input over declarations, each as an answer or, if the mark is true, as a rejection.
     ghost texts: { Self → Declared → List ℕ → Bool → List ℕ → Type 0 };
 
     /// Whether there is an input.
     fn has_input(&self) -> bool
         ensures { result ≡ reads self.now };
 
-    /// What the input is answered with, over what was built of declarations. Where there is no input, it is empty.
+    /// Answers the input over what was built of declarations. If there is no input, `input` is empty.
     fn answer(&self, alloc: Global, built: &Built<'_>, input: &[u8]) -> Result<Answer, AllocError>
         requires within { length input.now ≤ longest_input }
         requires no_input { reads self.now ≡ false → input.now ≡ [] }

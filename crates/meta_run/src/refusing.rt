@@ -19,7 +19,7 @@ fn refusal(alloc: Global, fault: &DefinitionError) -> Result<Vec<u8>, AllocError
     Ok(out)
 }
 
-/// Whether the fault is none of the declarations.
+/// Whether the fault says that memory ran out, and is no fault of the declarations.
 fn is_out_of_memory(fault: &DefinitionError) -> bool
     ensures { IsTrue result ↔ (fault.now ≡ DefinitionError.OutOfMemory) }
 {

@@ -9,7 +9,7 @@ use meta_declared::{Built, Declarations, build_all, one_first_fault};
 use meta_text::{ReadError, Sink, Source, read_whole, write_whole};
 use std::alloc::Global;
 
-/// The input of an answerer: all that the source has left, where there is an input, and else nothing.
+/// The input of an answerer: all that the source has left, if there is an input, and else no bytes.
 fn read_input<S: Source, A: Answerer>(
     alloc: Global,
     answerer: &A,
@@ -33,7 +33,7 @@ fn read_input<S: Source, A: Answerer>(
     }
 }
 
-/// Reads the input, and writes its answer once all is there.
+/// Reads the input, and writes its answer once all of the answer is in memory.
 fn answer<S: Source, K: Sink, A: Answerer>(
     alloc: Global,
     answerer: &A,
@@ -78,8 +78,8 @@ fn attempt<S: Source, K: Sink, A: Answerer>(
     }
 }
 
-/// Runs a program over declarations, which are refused by the first fault that they show (this project's own). The order is: the
-/// declarations; the whole input, if there is one; all that is answered, in memory; the writes. `OutOfMemory` may come in any case.
+/// Runs a program over declarations. Declarations with a fault are refused, by their first fault. The order is: the declarations; the whole
+/// input, if there is one; the whole answer, in memory; the writes. `OutOfMemory` may come in any case.
 pub fn run_answerer<S: Source, K: Sink, A: Answerer>(
     alloc: Global,
     answerer: &A,
@@ -91,14 +91,14 @@ pub fn run_answerer<S: Source, K: Sink, A: Answerer>(
     ensures ran { Ran S.left S.faults K.taken K.faults declarations.now source.old source.new sink.old sink.new
         (A.reads answerer.now) (A.texts answerer.now) result }
 
-    // Over valid declarations the input is answered, and others are refused.
+    // Over valid declarations the input is answered. Other declarations are refused.
     ensures headline { AnswersInput S.left S.faults K.taken K.faults declarations.now source.old source.new sink.old
         sink.new (A.reads answerer.now) (A.texts answerer.now) result }
     ensures refuses { RefusesDeclarations S.left S.faults K.taken K.faults declarations.now source.old source.new sink.old sink.new result }
     ensures complete { Completes S.left S.faults K.taken K.faults declarations.now source.old source.new sink.old
         sink.new (A.reads answerer.now) result }
 
-    // An input is rejected only where the answerer says so.
+    // An input is rejected only if the answerer says so.
     ensures rejected { result ≡ Ending.Rejected
         → IsAnsweredWhole S.left S.faults K.taken K.faults declarations.now source.old source.new sink.old sink.new
         (A.reads answerer.now) (A.texts answerer.now) true }

@@ -12,7 +12,7 @@ use Rattle.meta_rust_lines.specs.Filled.{is_mark, text_named, by_turns, filled}
 is_no_mark : (byte : ℕ) → byte ≢ 36 → is_mark byte ≡ false
 is_no_mark byte other = grind (arith, nat_tests)
 
--- where a text is cut at its first mark, its parts are what stands before it, and those of what stands after it
+-- the parts of a text that is cut at its first mark are what stands before the mark, and the parts of what stands after it
 pub cut_parts : (text : List ℕ) (r : Option (Bor (List ℕ) × Bor (List ℕ))) → IsSplitOnceResult 36 text r
     → MatchOption r (slice_split is_mark text ≡ text ∷ []) (λ x. slice_split is_mark text ≡ x.0.now ∷ slice_split is_mark x.1.now)
 cut_parts text None h =

@@ -5,8 +5,6 @@ use super::pushed::push_text;
 use std::alloc::AllocError;
 
 /// Adds an empty line, as it stands between two items.
-///
-/// The only error is want of memory.
 #[tactic(auto, unfolding(crate::specs::Ends::gap_text))]
 pub fn push_gap(out: &mut String) -> Result<(), AllocError>
     ensures { OnOk result (string_bytes out.new ≡ string_bytes out.old ++ gap_text) }
@@ -15,8 +13,6 @@ pub fn push_gap(out: &mut String) -> Result<(), AllocError>
 }
 
 /// Adds the last line of an item: `}`.
-///
-/// The only error is want of memory.
 #[tactic(auto, unfolding(crate::specs::Ends::item_end))]
 pub fn push_item_end(out: &mut String) -> Result<(), AllocError>
     ensures { OnOk result (string_bytes out.new ≡ string_bytes out.old ++ item_end) }

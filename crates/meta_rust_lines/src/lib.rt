@@ -1,5 +1,5 @@
-//! What the texts of Rust source share: templates, which have holes for what differs, and how they are filled; a text that is added as
-//! it is, the empty line between two items, and the ends of items.
+//! What the texts of Rust source share: templates, which have holes for what differs, and how they are filled; how a text is added
+//! unchanged; the empty line between two items, and the ends of items.
 #![tactic(auto)]
 
 mod ends;

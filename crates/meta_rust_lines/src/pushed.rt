@@ -2,9 +2,7 @@ ghost use Rattle.std.specs.Prelude.{◌≡◌, ◌++◌, OnOk, string_bytes};
 
 use std::alloc::AllocError;
 
-/// Adds a text to another one.
-///
-/// The only error is want of memory.
+/// Adds `text` to the end of `out`.
 pub fn push_text(out: &mut String, text: &str) -> Result<(), AllocError>
     ensures { OnOk result (string_bytes out.new ≡ string_bytes out.old ++ text.now) }
 {

@@ -5,14 +5,13 @@ ghost use Rattle.meta_rust_lines.specs.Filled.{is_mark, text_named, by_turns, fi
 
 use std::alloc::AllocError;
 
-/// Whether two texts are the same.
 fn is_same(text: &str, other: &str) -> bool
     ensures { result ≡ bytes_eq text.now other.now }
 {
     text == other
 }
 
-/// The text of the hole of this name, and nothing where there is none.
+/// The text of the hole of this name, and no text if there is no such hole.
 fn text_named<'a>(mut holes: &[&str], mut texts: &[&'a str], name: &str) -> &'a str
     ensures { result.now ≡ text_named (map (λ h. h.now) holes.entry.now) (map (λ t. t.now) texts.entry.now) name.now }
 {
@@ -29,7 +28,7 @@ fn text_named<'a>(mut holes: &[&str], mut texts: &[&'a str], name: &str) -> &'a 
     ""
 }
 
-/// What stands before the first mark, and after it.
+/// What stands before the first mark, and what stands after it. `None` if there is no mark.
 fn cut(text: &str) -> Option<(&str, &str)>
     ensures parts { MatchOption result (slice_split is_mark text.now ≡ text.now ∷ [])
         (λ x. slice_split is_mark text.now ≡ x.0.now ∷ slice_split is_mark x.1.now) }
@@ -50,10 +49,8 @@ fn name_and_rest(text: &str) -> (&str, &str)
     }
 }
 
-/// Adds a template with these texts in its holes of these names. A hole is a name between two marks, as `$Type$` in
-/// `pub enum $Type$ {`. A name may stand in it more than once.
-///
-/// The only error comes where memory runs out.
+/// Adds a template with these texts in its holes of these names. A hole is a name between two marks, as `$Type$` in `pub enum $Type$ {`. A
+/// name may stand in it more than once.
 pub fn fill(
     out: &mut String,
     template: &str,

@@ -55,7 +55,7 @@ at_128 bits (inr (inr (inr (inr (inl e))))) h = rw e (inl refl)
 at_128 bits (inr (inr (inr (inr (inr (inl e)))))) h = rw e (inr (inl refl))
 at_128 bits (inr (inr (inr (inr (inr (inr (no_size))))))) h = absurd no_size
 
--- a vector of one of the sizes may have so many lanes of a smaller lane type
+-- a vector of one of the sizes may have as many lanes of a smaller lane type as it holds
 pub fits : (lane : LaneType) (bits : ℕ) → Contains vector_sizes bits → (lane_parts lane).width < bits
     → Contains (lane_counts true) (bits / (lane_parts lane).width)
 fits (IntLane I8) bits size h = contains (lane_counts true) (bits / 8) (at_8 bits (among vector_sizes bits size) h)

@@ -9,6 +9,6 @@ use Rattle.meta_instructions_enums_text.specs.DataText.{data_text}
 use Rattle.meta_instructions_enums_text.specs.OpcodesText.{opcodes_text}
 use Rattle.meta_instructions_methods_text.specs.DataImpl.{data_impl_text}
 
--- the texts of its parts in order; an empty line stands behind the implementation of the data, as one stands behind the data
+-- the texts of its parts in order; an empty line follows the implementation of the data, as one follows the data
 unfoldable pub instructions_text : BuiltDeclarations → List ℕ
 instructions_text b = formats_text b ++ (data_text b ++ (data_impl_text (formats_in b) ++ (gap_text ++ opcodes_text b)))

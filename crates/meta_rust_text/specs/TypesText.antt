@@ -27,7 +27,7 @@ constant_text doc name number = text_of (constant_lines doc name number)
 unfoldable pub type_constant : TypeParts → List ℕ
 type_constant t = constant_text (type_doc t) (map to_ascii_uppercase (name_of t)) (number_of t)
 
--- the text of what is made of a lane type and of how many of its lanes so many bits hold, where it is smaller
+-- the text of the type that is made of a lane type and of the count of its lanes that this many bits hold, if the lane type is smaller
 abbrev pub sized_text : (TypeParts → ℕ → TypeParts) → ℕ → TypeParts → List ℕ
 sized_text made bits lane = if nat_lt lane.width bits then type_constant (made lane (bits / lane.width)) else []
 
@@ -35,19 +35,19 @@ sized_text made bits lane = if nat_lt lane.width bits then type_constant (made l
 abbrev pub vector_sizes : List ℕ
 vector_sizes = 16 ∷ 32 ∷ 64 ∷ 128 ∷ 256 ∷ 512 ∷ []
 
--- the lane types that are smaller than so many bits
+-- the lane types that are smaller than this many bits
 abbrev pub lanes_below : ℕ → List TypeParts
 lanes_below bits = filter (λ lane. nat_lt lane.width bits) scalars
 
--- the fixed vectors of so many bits, one of each smaller lane type
+-- the fixed vectors of this many bits, one of each smaller lane type
 abbrev pub vectors_of : ℕ → List TypeParts
 vectors_of bits = map (λ lane. lanes_of lane (bits / lane.width)) (lanes_below bits)
 
--- the dynamic vectors of so many bits at least
+-- the dynamic vectors of at least this many bits
 abbrev pub dynamic_vectors_of : ℕ → List TypeParts
 dynamic_vectors_of bits = map (λ lane. least_lanes_of lane (bits / lane.width)) (lanes_below bits)
 
--- the nine lane types, and then of each size the fixed and the dynamic vectors
+-- the nine lane types, and then for each size the fixed and the dynamic vectors
 abbrev pub common_types : List TypeParts
 common_types = scalars ++ flat_map (λ bits. vectors_of bits ++ dynamic_vectors_of bits) vector_sizes
 

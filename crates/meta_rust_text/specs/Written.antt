@@ -4,9 +4,9 @@ use Rattle.meta_text.specs.Outside.{Rose, with_more, TookPart}
 use Rattle.meta_text.specs.declared.whole.WriteError.{WriteError}
 use Rattle.meta_text.specs.declared.whole.WriteError.TheVariants.{WriteFault, OutOfMemory}
 
--- From the sink before a call to the sink after it, the text was made and written where the answer is `Ok`. Where no memory was found
--- to make it, the sink is as before. After a fault the sink took a front of the text, and not all of it, and counted the fault. The
--- count never falls. The sink tells what it took and how many faults there were by taken and faults.
+-- From the sink before a call to the sink after it, the text was made and written if the answer is `Ok`. If memory ran out before it was
+-- made, the sink is as before. After a fault the sink took a front of the text, and not all of it, and counted the fault. The count never
+-- falls. What the sink took is given by taken, and the count of its faults by faults.
 pub record WritesMade {K : Type 0} (taken : K → Option (List ℕ)) (faults : K → ℕ) (text : List ℕ)
     (result : Result (Unit {0}) WriteError) (old new : K) : Type 0 where
   pub ok : OnOk result (taken new ≡ with_more (taken old) text)

@@ -7,10 +7,11 @@ use meta_declared::Built;
 use meta_text::{Sink, WriteError};
 use std::alloc::Global;
 
-/// Writes the text of the builder of instructions to the sink (`gen_builder` of `gen_inst.rs`, as `builder_text` makes it).
+/// Writes the text of the builder of instructions to the sink, as `builder_text` makes it. The crate's `gen_builder` of `gen_inst.rs`
+/// writes it too.
 ///
-/// `OutOfMemory` comes before anything is written. After `WriteFault`, which comes only where a write failed, the sink took a
-/// front of the text.
+/// `OutOfMemory` comes before anything is written. `WriteFault` comes only where a write failed; the sink has then taken a front of the
+/// text.
 pub fn write_builder<K: Sink>(
     alloc: Global,
     built: &Built<'_>,

@@ -10,11 +10,11 @@ use meta_rust_lines::push_gap;
 use meta_text::{Sink, WriteError};
 use std::alloc::{AllocError, Global};
 
-/// The text of instructions as Rust source (`gen_formats`, `gen_instruction_data`, `gen_instruction_data_impl` and `gen_opcodes`
-/// of `gen_inst.rs`, without the two tables that stand in the text of tables): the formats in use, the data of an instruction
-/// of each with its methods, and the opcodes with theirs.
+/// Makes the text of instructions as Rust source: the formats in use, the data of an instruction of each format with its methods, and the
+/// opcodes with theirs. The crate's `gen_formats`, `gen_instruction_data`, `gen_instruction_data_impl` and `gen_opcodes` of `gen_inst.rs`
+/// write it too; their two tables are in the text of tables.
 ///
-/// The text is made in one pass over the instructions and one a method over the formats, and the only error is want of memory.
+/// The text is made in one pass over the instructions, and for each method in one pass over the formats.
 #[tactic(auto, unfolding(crate::specs::InstructionsText::instructions_text))]
 pub fn instructions_text(alloc: Global, built: &Built<'_>) -> Result<String, AllocError>
     ensures { IfOk result (λ text. string_bytes text ≡ instructions_text built.now) }
@@ -31,8 +31,8 @@ pub fn instructions_text(alloc: Global, built: &Built<'_>) -> Result<String, All
 
 /// Writes the text of instructions to the sink, as `instructions_text` makes it.
 ///
-/// `OutOfMemory` comes before anything is written. After `WriteFault`, which comes only where a write failed, the sink took a
-/// front of the text.
+/// `OutOfMemory` comes before anything is written. `WriteFault` comes only where a write failed; the sink has then taken a front of the
+/// text.
 pub fn write_instructions<K: Sink>(
     alloc: Global,
     built: &Built<'_>,

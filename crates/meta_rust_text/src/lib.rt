@@ -1,8 +1,8 @@
 //! Texts of Rust source.
 //!
-//! Each is made in memory as a whole and then written to a sink: `write_types` writes the constants of the value types that are
-//! most in use, `write_settings` the flags of groups of settings, `write_instructions` the formats, the opcodes and the data of
-//! instructions, and `write_builder` the builder of instructions. The last three are of what is built of declarations.
+//! Each is made in memory as a whole, and then written to a sink. `write_types` writes the constants of the value types that are most in
+//! use, and `write_settings` the flags of groups of settings. `write_instructions` writes the formats, the opcodes and the data of
+//! instructions, and `write_builder` the builder of instructions. The last three write what is built of declarations.
 #![tactic(auto)]
 
 mod builder;

@@ -9,10 +9,11 @@ use meta_settings_text::settings_text;
 use meta_text::{Sink, WriteError};
 use std::alloc::Global;
 
-/// Writes the text of the groups of settings to the sink (`gen_group` of `gen_settings.rs`, as `settings_text` makes it).
+/// Writes the text of the groups of settings to the sink, as `settings_text` makes it. The crate's `gen_group` of `gen_settings.rs` writes
+/// it too.
 ///
-/// `OutOfMemory` comes before anything is written. After `WriteFault`, which comes only where a write failed, the sink took a
-/// front of the text.
+/// `OutOfMemory` comes before anything is written. `WriteFault` comes only where a write failed; the sink has then taken a front of the
+/// text.
 pub fn write_settings<K: Sink>(
     alloc: Global,
     built: &Built<'_>,

@@ -30,7 +30,6 @@ pub const {name}: Type = Type(0x{number:x});
     )
 }
 
-/// Adds the constant of a type.
 #[tactic(auto, unfolding(crate::specs::TypesText::type_constant))]
 fn push_type(alloc: Global, out: &mut String, ty: ValueType) -> Result<(), AllocError>
     ensures { OnOk result (string_bytes out.new ≡ string_bytes out.old ++ type_constant (type_parts_of ty)) }
@@ -42,7 +41,6 @@ fn push_type(alloc: Global, out: &mut String, ty: ValueType) -> Result<(), Alloc
     push_constant(out, doc, capitals, number)
 }
 
-/// Adds the lane types.
 fn push_lanes(alloc: Global, out: &mut String) -> Result<(), AllocError>
     ensures { OnOk result (string_bytes out.new ≡ string_bytes out.old ++ flat_map type_constant scalars) }
 {
@@ -52,7 +50,7 @@ fn push_lanes(alloc: Global, out: &mut String) -> Result<(), AllocError>
     Ok(())
 }
 
-/// Adds the fixed vector of so many bits of this lane type, where it is smaller.
+/// Adds the fixed vector of `bits` bits of this lane type, if the lane type is smaller.
 #[tactic(auto, using(crate::proofs::Sizes::fits, crate::proofs::Sizes::wide))]
 fn push_vector(alloc: Global, out: &mut String, lane: LaneType, bits: u64) -> Result<(), AllocError>
     requires { Contains vector_sizes bits }
@@ -66,7 +64,7 @@ fn push_vector(alloc: Global, out: &mut String, lane: LaneType, bits: u64) -> Re
     Ok(())
 }
 
-/// Adds the dynamic vector of at least so many bits of this lane type, where it is smaller.
+/// Adds the dynamic vector of at least `bits` bits of this lane type, if the lane type is smaller.
 #[tactic(auto, using(crate::proofs::Sizes::fits, crate::proofs::Sizes::wide))]
 fn push_dynamic_vector(
     alloc: Global,
@@ -85,7 +83,7 @@ fn push_dynamic_vector(
     Ok(())
 }
 
-/// Adds the fixed vectors of so many bits.
+/// Adds the fixed vectors of `bits` bits.
 fn push_vectors(alloc: Global, out: &mut String, bits: u64) -> Result<(), AllocError>
     requires { Contains vector_sizes bits }
     ensures { OnOk result (string_bytes out.new ≡ string_bytes out.old ++ flat_map type_constant (vectors_of bits)) }
@@ -96,7 +94,7 @@ fn push_vectors(alloc: Global, out: &mut String, bits: u64) -> Result<(), AllocE
     Ok(())
 }
 
-/// Adds the dynamic vectors of so many bits.
+/// Adds the dynamic vectors of at least `bits` bits.
 fn push_dynamic_vectors(alloc: Global, out: &mut String, bits: u64) -> Result<(), AllocError>
     requires { Contains vector_sizes bits }
     ensures { OnOk result (string_bytes out.new ≡ string_bytes out.old ++ flat_map type_constant (dynamic_vectors_of bits)) }
@@ -120,9 +118,9 @@ fn push_sizes(alloc: Global, out: &mut String) -> Result<(), AllocError>
     Ok(())
 }
 
-/// The constants of the types that are most in use, as Rust source (`gen_types.rs`): the nine lane
-/// types, and then of 16, 32, 64, 128, 256 and 512 bits the fixed and the dynamic vectors, of each
-/// lane type that is smaller. Each has its documentation, and an empty line behind it.
+/// Makes the types text: the constants of the types that are most in use, as Rust source, as the crate's `gen_types.rs` writes them. They
+/// are the nine lane types, and then for 16, 32, 64, 128, 256 and 512 bits the fixed and the dynamic vectors of each lane type that is
+/// smaller. Each has its documentation, and an empty line after it.
 pub fn types_text(alloc: Global) -> Result<String, AllocError>
     ensures { IfOk result (λ text. string_bytes text ≡ types_text) }
 {
@@ -132,10 +130,10 @@ pub fn types_text(alloc: Global) -> Result<String, AllocError>
     Ok(out)
 }
 
-/// Writes the types text to the sink, once it is there as a whole (`gen_types.rs`).
+/// Writes the types text to the sink, once it is made as a whole.
 ///
-/// `WriteFault` comes only where a write failed, and the sink then took a front of the text. Where
-/// no memory is found nothing is written.
+/// `OutOfMemory` comes before anything is written. `WriteFault` comes only where a write failed; the sink has then taken a front of the
+/// text.
 pub fn write_types<K: Sink>(alloc: Global, sink: &mut K) -> Result<(), WriteError>
     ensures { WritesMade K.taken K.faults types_text result sink.old sink.new }
 {

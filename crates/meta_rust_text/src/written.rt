@@ -4,9 +4,9 @@ ghost use Rattle.meta_rust_text.specs.Written.{WritesMade};
 use meta_text::{Sink, WriteError, write_whole};
 use std::alloc::AllocError;
 
-/// Writes a text that was to be made, and nothing where no memory was found to make it.
+/// Writes a text that was to be made, and nothing if memory ran out before it was made.
 ///
-/// After `WriteFault`, which comes only where a write failed, the sink took a front of the text.
+/// `WriteFault` comes only where a write failed; the sink has then taken a front of the text.
 pub(crate) fn write_made<K: Sink>(
     made: Result<String, AllocError>,
     sink: &mut K,

@@ -28,8 +28,8 @@ shown_text value = text_of (at 3 (codes "Self::" ∷ camel_case_of value ∷ cod
 unfoldable pub read_text : List ℕ → List ℕ
 read_text value = text_of (at 3 (codes "\"" ∷ value ∷ codes "\" => Ok(Self::" ∷ camel_case_of value ∷ codes ")," ∷ []) ∷ [])
 
--- the enum of the setting `group.name`: its variants, the function `all`, which gives all values, and how it is shown and read; no
--- other text gives a value
+-- the enum of the setting `group.name`: its variants, the function `all`, which gives all values, and how it is displayed and parsed; a
+-- text that isn't the name of a value gives no value
 unfoldable pub enum_text : List ℕ → List ℕ → List (List ℕ) → List ℕ
 enum_text group name values =
     lines_onto (
@@ -64,7 +64,7 @@ enum_text group name values =
     ∷ at 1 (codes "}" ∷ [])
     ∷ at 0 (codes "}" ∷ []) ∷ [])))))
 
--- the enum of the setting `group.name`, and nothing where it is a boolean or a number
+-- the enum of the setting `group.name`, and no text if the setting is a boolean or a number
 abbrev pub enum_of : List ℕ → List ℕ → SpecificSetting → List ℕ
 enum_of group name (Bool b) = []
 enum_of group name (Enum values) = enum_text group name values

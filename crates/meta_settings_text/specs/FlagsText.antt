@@ -7,13 +7,13 @@ use Rattle.meta_text.specs.Lines.{at, text_of}
 use Rattle.meta_settings_text.specs.declared.parent_group.ParentGroup.{ParentGroup}
 use Rattle.meta_settings_text.specs.declared.parent_group.ParentGroup.TheVariants.{None, Shared}
 
--- the arguments of a constructor: it has the flags of the parent, where there is one
+-- the arguments of a constructor: it has the flags of the parent, if the group has one
 abbrev pub arguments_of : ParentGroup → List ℕ
 arguments_of None = codes "builder: Builder"
 arguments_of Shared = codes "shared: &settings::Flags, builder: &Builder"
 
--- The flags of a group of this name, whose settings take so many bytes. The constructor with these arguments makes flags of bytes that
--- are all 0, and copies the builder's to them.
+-- The flags of a group of this name, whose settings take this count of bytes. The constructor with these arguments makes flags whose bytes
+-- are all 0, and copies the bytes of the builder to them.
 unfoldable pub flags_text : List ℕ → List ℕ → ℕ → List ℕ
 flags_text name arguments size = text_of (
     at 0 (codes "#[derive(Clone, PartialEq, Hash)]" ∷ [])

@@ -1,7 +1,7 @@
 -- The getters of the settings of a group.
 --     arms_text ty byte values     the arms by which the bytes from `byte` on give these values of the enum `ty`
 --     getter_text s                the getter of a setting
---     getters_text g               those of a group
+--     getters_text g               the getters of a group
 use Rattle.std.specs.Prelude.{ℕ, ◌+◌, List, [], ◌∷◌, ◌++◌, codes}
 use Rattle.std.specs.List.{flat_map}
 use Rattle.std.specs.Fmt.{decimal}
@@ -29,7 +29,7 @@ bool_getter doc name number = text_of (
     ∷ at 2 (codes "self.numbered_predicate(" ∷ decimal number ∷ codes ")" ∷ [])
     ∷ at 1 (codes "}" ∷ []) ∷ [])
 
--- that of the number in this byte
+-- the getter of the number in this byte
 unfoldable pub number_getter : List ℕ → List ℕ → ℕ → List ℕ
 number_getter doc name byte = text_of (
     at 1 (codes "/// " ∷ doc ∷ [])
@@ -37,7 +37,7 @@ number_getter doc name byte = text_of (
     ∷ at 2 (codes "self.bytes[" ∷ decimal byte ∷ codes "]" ∷ [])
     ∷ at 1 (codes "}" ∷ []) ∷ [])
 
--- that of the enum in this byte: the bytes from 0 on give its values, and a byte that gives none is told by a panic
+-- the getter of the enum in this byte: the bytes from 0 on give its values, and for any other byte the getter panics
 unfoldable pub enum_getter : List ℕ → List ℕ → ℕ → List (List ℕ) → List ℕ
 enum_getter doc name byte values =
     lines_onto (
@@ -49,13 +49,13 @@ enum_getter doc name byte values =
     ∷ at 2 (codes "}" ∷ [])
     ∷ at 1 (codes "}" ∷ []) ∷ []))
 
--- that of a setting of this name in this byte, by what it is
+-- the getter of a setting of this name in this byte, by the kind of the setting
 abbrev pub getter_of : List ℕ → List ℕ → ℕ → SpecificSetting → List ℕ
 getter_of doc name byte (Bool b) = bool_getter doc name b.predicate_number
 getter_of doc name byte (Enum values) = enum_getter doc name byte values
 getter_of doc name byte (Num default) = number_getter doc name byte
 
--- that of a setting: its documentation is the description, without white space at both ends
+-- the getter of a setting: its documentation is the description, without white space at both ends
 unfoldable pub getter_text : PlacedSetting → List ℕ
 getter_text s = getter_of (trim s.description) s.name s.byte_offset s.specific
 
@@ -67,7 +67,7 @@ predicate_text start = text_of (
     ∷ at 2 (codes "self.bytes[" ∷ decimal start ∷ codes " + p / 8] & (1 << (p % 8)) != 0" ∷ [])
     ∷ at 1 (codes "}" ∷ []) ∷ [])
 
--- the same where there are settings, and nothing where there are none
+-- the same if there are settings, and no text if there are none
 abbrev pub predicate_of : ℕ → List PlacedSetting → List ℕ
 predicate_of start [] = []
 predicate_of start (s ∷ ss) = predicate_text start

@@ -1,6 +1,6 @@
 -- The text of groups of settings, as they are built.
---     group_flags_text parent g     that of a group with this parent
---     settings_text groups    that of groups, of which the first has no parent
+--     group_flags_text parent g     the text of a group with this parent
+--     settings_text groups    the text of groups, of which the first has no parent
 use Rattle.std.specs.Prelude.{ℕ, List, [], ◌∷◌, ◌++◌}
 use Rattle.std.specs.List.{flat_map}
 use Rattle.meta_settings.specs.Layout.{Layout}

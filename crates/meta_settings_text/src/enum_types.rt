@@ -53,7 +53,7 @@ const READ: &str = "            \"$value$\" => Ok(Self::$Value$),\n";
 
 const VALUE_HOLES: [&str; 2] = ["value", "Value"];
 
-/// These lines of each value, in order.
+/// These lines for each value, in order.
 fn for_each_value(alloc: Global, lines: &str, values: &[Text]) -> Result<String, AllocError>
     requires { IsTrue (fits lines.now (map (λ h. h.now) VALUE_HOLES)) }
     ensures { IfOk result (λ text. string_bytes text
@@ -103,7 +103,7 @@ fn push_enum(
     )
 }
 
-/// Adds the enum of a setting, where it is one.
+/// Adds the enum of a setting, if it is one.
 fn push_enum_type(
     alloc: Global,
     out: &mut String,

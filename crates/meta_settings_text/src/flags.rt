@@ -5,7 +5,7 @@ use meta_rust_lines::fill;
 use meta_settings::SettingGroup;
 use std::alloc::{AllocError, Global};
 
-/// The flags of a group, whose settings take so many bytes, with their constructor and the function `iter` (`gen_group`,
+/// The flags of a group, whose settings take a given count of bytes, with their constructor and the function `iter` (`gen_group`,
 /// `gen_constructor` and `gen_iterator`).
 const FLAGS: &str = "#[derive(Clone, PartialEq, Hash)]
 /// Flags group `$group$`.

@@ -16,7 +16,7 @@ $predicate$$getters$}
 
 const GETTERS_HOLES: [&str; 2] = ["predicate", "getters"];
 
-/// The getter of booleans by their numbers, where this is the byte of the first.
+/// The getter of booleans by their numbers. It has the byte of the first boolean.
 const PREDICATE: &str = "    /// Dynamic numbered predicate getter.
     fn numbered_predicate(&self, p: usize) -> bool {
         self.bytes[$start$ + p / 8] & (1 << (p % 8)) != 0
@@ -78,7 +78,6 @@ fn enum_arms(alloc: Global, ty: &str, values: &[Text]) -> Result<String, AllocEr
     Ok(arms)
 }
 
-/// Adds the getter of a setting.
 #[tactic(auto, using(crate::proofs::Templates::getter_steps), unfolding(crate::specs::GetterText::getter_text))]
 fn push_getter(alloc: Global, out: &mut String, setting: &Setting) -> Result<(), AllocError>
     ensures { OnOk result (string_bytes out.new ≡ string_bytes out.old ++ getter_text setting.now) }
@@ -123,7 +122,6 @@ fn push_getter(alloc: Global, out: &mut String, setting: &Setting) -> Result<(),
     }
 }
 
-/// The getters of the settings.
 fn each_getter(alloc: Global, settings: &[Setting]) -> Result<String, AllocError>
     ensures { IfOk result (λ getters. string_bytes getters ≡ flat_map getter_text settings.now) }
 {
@@ -134,7 +132,7 @@ fn each_getter(alloc: Global, settings: &[Setting]) -> Result<String, AllocError
     Ok(getters)
 }
 
-/// The getter of booleans by their numbers, where the group has a setting.
+/// The getter of booleans by their numbers, and no text if the group has no setting.
 #[tactic(auto, using(crate::proofs::Templates::predicate_same))]
 fn predicate(alloc: Global, group: &SettingGroup) -> Result<String, AllocError>
     ensures { IfOk result (λ text. string_bytes text ≡ predicate_of group.now.bool_start_byte_offset group.now.settings) }
@@ -148,7 +146,6 @@ fn predicate(alloc: Global, group: &SettingGroup) -> Result<String, AllocError>
     Ok(text)
 }
 
-/// Adds the getters of the settings of a group.
 #[tactic(auto, using(crate::proofs::Templates::getters_same))]
 pub(crate) fn push_getters(
     alloc: Global,

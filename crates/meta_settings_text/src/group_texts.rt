@@ -25,12 +25,12 @@ fn push_group(
     push_flags_used(out, name)
 }
 
-/// The text of groups of settings as they are built, as Rust source (`gen_group` of `gen_settings.rs`, without the tables of
-/// `gen_descriptors` and the template of `gen_template`, which stand in the text of tables): of each group its flags, its enums
-/// and its getters. The first group has no parent, and the others have the one that all targets share. The documentation of a
-/// getter is the description of its setting, without white space at both ends.
+/// Makes the text of groups of settings, as they are built, in Rust source. Each group has its flags, its enums and its getters, as
+/// `gen_group` of the crate's `gen_settings.rs` writes them. The tables of `gen_descriptors` and the template of `gen_template` are not in
+/// this text, but in the text of tables. The first group has no parent, and the others have the one that all targets share. The
+/// documentation of a getter is the description of its setting, without white space at both ends.
 ///
-/// The text is made in one pass over the settings, and the only error is want of memory.
+/// The text is made in one pass over the settings.
 pub fn settings_text(alloc: Global, groups: &[SettingGroup]) -> Result<String, AllocError>
     ensures { IfOk result (λ text. string_bytes text ≡ settings_text groups.now) }
 {

@@ -1,8 +1,7 @@
-//! The text of groups of settings: what is fixed for a group, its enums and its getters, as the Rust source of the crate's
-//! generator has it (`gen_settings.rs`).
+//! The text of groups of settings, as Rust source: what is fixed for a group, its enums and its getters, as the crate's `gen_settings.rs`
+//! writes them.
 //!
-//! `settings_text` makes the text of groups as they are built. The tables of a group, which this text names, stand in the text of
-//! tables.
+//! `settings_text` makes the text of groups, as they are built. The tables of a group, which this text names, are in the text of tables.
 #![tactic(auto)]
 
 mod enum_types;

@@ -1,4 +1,4 @@
--- What holds at any outcome holds at the one that a word speaks of.
+-- What holds whatever the outcome is holds for each outcome.
 use Rattle.std.proofs.Common.{ℕ}
 use Rattle.meta_text.specs.Outcomes.{IfGot, OnEnd, OnReadFailed, IfWrote, OnWriteFailed}
 use Rattle.meta_text.specs.declared.outside.ReadOutcome.{ReadOutcome}

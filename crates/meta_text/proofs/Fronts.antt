@@ -20,7 +20,7 @@ module _ (count size : ℕ) (left front copied rest : List ℕ) (is_count : coun
   pub kept_rest : drop count (copied ++ rest) ≡ rest
   kept_rest = drop_at copied rest count exact
 
-  -- with the bytes left in the whole, and the place behind them
+  -- the bytes from a place on are those that are given, and then those from the place after them on
   pub given_all : (at : ℕ) (items : List ℕ) → left ≡ drop at items
       → drop at items ≡ take count (copied ++ rest) ++ drop (at + count) items
   given_all at items from =
@@ -43,7 +43,7 @@ module _ (count : ℕ) (block more copied rest : List ℕ) (within : count ≤ l
     pub copied_rest : drop count (copied ++ rest) ≡ rest
     copied_rest = drop_at copied rest count so_many
 
--- where the test for no bytes is true, none is left
+-- where the test for no bytes is true, no byte is left
 pub none_left : (left : List ℕ) → true ≡ (length left == 0) → left ≡ []
 none_left [] e = refl
 none_left (x ∷ xs) e = search rules

@@ -20,12 +20,12 @@ pub one_level : (level : ℕ) → 0 < level → indented level [] ≡ codes "   
 one_level zero h = let bad : ⊥ = omega arith in absurd bad
 one_level (suc level) h = let e : suc level - 1 ≡ level = omega arith in rw e refl
 
--- a text behind spaces, and more
+-- spaces before two texts are spaces before the first, and then the second
 pub indented-append : (level : ℕ) (a b : List ℕ) → indented level (a ++ b) ≡ indented level a ++ b
 indented-append zero a b = refl
 indented-append (suc level) a b = ap (λ (xs : List ℕ). codes "    " ++ xs) (indented-append level a b)
 
--- the field at place i, as it is shown, and those behind it
+-- the fields from place i on, each after a comma, are the field at place i after its comma, and then the later ones
 pub next_field : (fields : List (List ℕ)) (i : ℕ) (field shown : List ℕ) → i < length fields → field ≡ get_or fields i field → shown ≡ field
     → flat_map behind_comma (drop i fields) ≡ behind_comma shown ++ flat_map behind_comma (drop (i + 1) fields)
 next_field fields i field shown h is same =

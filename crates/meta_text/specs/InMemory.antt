@@ -30,7 +30,7 @@ pub record SinkState : Type 0 where
 unfoldable pub is_listed : ℕ → List ℕ → Bool
 is_listed calls fails = list_any (λ number. number == counted calls) fails
 
--- how many bytes the next read gives to a buffer of this length, where it neither fails nor is at the end
+-- how many bytes the next read gives to a buffer of this length, if it doesn't fail and bytes are left
 abbrev pub given_count : SourceState → ℕ → ℕ
 given_count source buffer = min (min source.step buffer) (length source.left)
 
@@ -48,7 +48,7 @@ free_room sink = sink.room - length sink.taken
 abbrev pub refuses_next : SinkState → Bool
 refuses_next sink = free_room sink == 0 || is_listed sink.calls sink.fails
 
--- how many of this many bytes the next write takes, where it doesn't fail
+-- how many of this many bytes the next write takes, if it doesn't fail
 abbrev pub taken_count : SinkState → ℕ → ℕ
 taken_count sink given = min (min sink.step given) (free_room sink)
 

@@ -15,7 +15,7 @@ sink_of writer = writer.sink.now
 abbrev pub sink_name : {K : Type 0} → LineWriter K → GName
 sink_name writer = writer.sink.ghost_name
 
--- how many levels the next line stands in
+-- the level of the next line
 abbrev pub level_of : {K : Type 0} → LineWriter K → ℕ
 level_of writer = writer.level
 
@@ -23,11 +23,11 @@ level_of writer = writer.level
 abbrev pub without_blanks : List ℕ → List ℕ
 without_blanks bytes = take (length bytes - suffix_len (λ byte. byte == 32) bytes) bytes
 
--- a field behind a comma
+-- a comma and a space, and then the field
 abbrev pub behind_comma : List ℕ → List ℕ
 behind_comma field = codes ", " ++ field
 
--- what stands between the name of an arm and its body: ` { F, G } => `, or ` => ` where there are no fields
+-- what stands between the name of an arm and its body: ` { F, G } => `, or ` => ` if there are no fields
 abbrev pub arm_mark : List (List ℕ) → List ℕ
 arm_mark [] = codes " => "
 arm_mark (field ∷ fields) = codes " { " ++ (field ++ (flat_map behind_comma fields ++ codes " } => "))
@@ -44,6 +44,6 @@ block_text level head = text_of (at level (without_blanks head ∷ codes " {" �
 abbrev pub end_text : ℕ → List ℕ
 end_text level = text_of (at level (codes "}" ∷ []) ∷ [])
 
--- an arm of a match: `NAME { F, G } => BODY,`, or `NAME => BODY,` where there are no fields
+-- an arm of a match: `NAME { F, G } => BODY,`, or `NAME => BODY,` if there are no fields
 abbrev pub arm_text : ℕ → List ℕ → List (List ℕ) → List ℕ → List ℕ
 arm_text level name fields body = text_of (at level (name ∷ arm_mark fields ∷ body ∷ codes "," ∷ []) ∷ [])

@@ -1,25 +1,25 @@
 -- Sources and sinks: the bytes left, the bytes taken, and the counts of faults.
 use Rattle.std.specs.Prelude.{◌≡◌, ℕ, ◌+◌, ◌-◌, ◌^◌, ◌<◌, ◌≤◌, min, List, [], ◌++◌, length, Option, None, Some, IfSome, ◌⊎◌}
 
--- one more, as a count of 64 bits holds it: it stays at its highest number
+-- one more, in a count of 64 bits, which stays at its highest number
 abbrev pub counted : ℕ → ℕ
 counted n = min (n + 1) (2 ^ 64 - 1)
 
--- a count rose in a call: it is greater after the call than before it, or stands at its highest number after it
+-- a count rose in a call: it is greater after the call than before, or it is at its highest number after the call
 abbrev pub Rose : ℕ → ℕ → Type 0
 Rose old new = (old < new) ⊎ (new ≡ 2 ^ 64 - 1)
 
--- the bytes, and then those that are left, where those are told
+-- the bytes, and then those that are left, if contracts see these
 abbrev pub with_front : List ℕ → Option (List ℕ) → Option (List ℕ)
 with_front bytes None = None
 with_front bytes (Some left) = Some (bytes ++ left)
 
--- the bytes that were taken, where those are told, and then these
+-- the bytes that were taken, if contracts see these, and then the given ones
 abbrev pub with_more : Option (List ℕ) → List ℕ → Option (List ℕ)
 with_more None bytes = None
 with_more (Some taken) bytes = Some (taken ++ bytes)
 
--- no byte is left, where the bytes left are told
+-- no byte is left, if contracts see the bytes that are left
 abbrev pub NothingLeft : Option (List ℕ) → Type 0
 NothingLeft left = IfSome left (λ bytes. bytes ≡ [])
 

@@ -9,11 +9,10 @@ use crate::outside::Sink;
 use crate::whole::{WriteError, write_whole};
 use meta_types::Text;
 
-/// Writes lines to a sink, each at the level that it stands in: four spaces a level
-/// (`cranelift_srcgen`'s `Formatter`).
+/// Writes lines to a sink, each at its level: four spaces a level. It stands in place of `Formatter` of the crate `cranelift_srcgen`.
 ///
-/// The calls take no memory, and their only error is `WriteFault`, which comes only where a write
-/// failed. The sink then took a front of the text, and the level is as before.
+/// The calls take no memory. Their only error is `WriteFault`, which comes only where a write failed. The sink has then taken a front of
+/// the text, and the level is as before.
 #[derive(Drop)]
 pub struct LineWriter<'a, K> {
     sink: &'a mut K,
@@ -21,7 +20,7 @@ pub struct LineWriter<'a, K> {
 }
 
 impl<'a, K: Sink> LineWriter<'a, K> {
-    /// A writer at level 0, which has written nothing yet.
+    /// Makes a writer at level 0, which has written nothing yet.
     pub fn new(sink: &'a mut K) -> LineWriter<'a, K>
         ensures sink { sink_of result ≡ sink.old }
         ensures same_sink { sink_name result ≡ sink.entry.ghost_name }
@@ -30,14 +29,14 @@ impl<'a, K: Sink> LineWriter<'a, K> {
         LineWriter { sink, level: 0 }
     }
 
-    /// How many levels the next line stands in.
+    /// The level of the next line.
     pub fn level(&self) -> u32
         ensures { result ≡ level_of self.now }
     {
         self.level
     }
 
-    /// The next lines stand one level further in.
+    /// Puts the next lines one level further in.
     pub fn indent(&mut self)
         requires { level_of self.old < 2 ^ 32 - 1 }
         ensures level { level_of self.new ≡ level_of self.old + 1 }
@@ -47,7 +46,7 @@ impl<'a, K: Sink> LineWriter<'a, K> {
         self.level += 1;
     }
 
-    /// The next lines stand one level further out.
+    /// Puts the next lines one level further out.
     pub fn outdent(&mut self)
         requires { 0 < level_of self.old }
         ensures level { level_of self.new + 1 ≡ level_of self.old }
@@ -57,7 +56,7 @@ impl<'a, K: Sink> LineWriter<'a, K> {
         self.level -= 1;
     }
 
-    /// Writes a line.
+    /// Writes a line at the current level.
     pub fn line(&mut self, text: &[u8]) -> Result<(), WriteError>
         ensures writes { Writes K.taken K.faults (line_text (level_of self.old) text.now) result (sink_of self.old) (sink_of self.new) }
         ensures level { level_of self.new ≡ level_of self.old }
@@ -66,7 +65,7 @@ impl<'a, K: Sink> LineWriter<'a, K> {
         put_line(self.sink, self.level, text, b"\n")
     }
 
-    /// Writes a line with nothing on it, no spaces either.
+    /// Writes a line with nothing on it, not even spaces.
     pub fn empty_line(&mut self) -> Result<(), WriteError>
         ensures writes { Writes K.taken K.faults (text_of (empty_line ∷ [])) result (sink_of self.old) (sink_of self.new) }
         ensures level { level_of self.new ≡ level_of self.old }
@@ -75,8 +74,7 @@ impl<'a, K: Sink> LineWriter<'a, K> {
         put(self.sink, b"\n")
     }
 
-    /// Begins a block with the line `HEAD {`, without the blanks at the end of the head. The lines
-    /// of the block stand one level further in.
+    /// Begins a block with the line `HEAD {`, without the blanks at the end of the head. The lines of the block are one level further in.
     pub fn block(&mut self, head: &[u8]) -> Result<(), WriteError>
         requires { level_of self.old < 2 ^ 32 - 1 }
         ensures writes { Writes K.taken K.faults (block_text (level_of self.old) head.now) result (sink_of self.old) (sink_of self.new) }
@@ -91,7 +89,7 @@ impl<'a, K: Sink> LineWriter<'a, K> {
         written
     }
 
-    /// Ends a block with the line `}`, one level further out, where the next lines stand too.
+    /// Ends a block with the line `}`, one level further out. The next lines are at that level too.
     pub fn end(&mut self) -> Result<(), WriteError>
         requires { 0 < level_of self.old }
         ensures writes { Writes K.taken K.faults (end_text (level_of self.old - 1)) result (sink_of self.old) (sink_of self.new) }
@@ -106,8 +104,7 @@ impl<'a, K: Sink> LineWriter<'a, K> {
         written
     }
 
-    /// Writes an arm of a match on one line: `NAME { F, G } => BODY,`, or `NAME => BODY,` where
-    /// there are no fields.
+    /// Writes an arm of a match on one line: `NAME { F, G } => BODY,`, or `NAME => BODY,` if there are no fields.
     pub fn arm(&mut self, name: &[u8], fields: &[Text], body: &[u8]) -> Result<(), WriteError>
         ensures writes { Writes K.taken K.faults (arm_text (level_of self.old) name.now fields.now body.now) result
             (sink_of self.old) (sink_of self.new) }
@@ -132,14 +129,12 @@ fn without_blanks(bytes: &[u8]) -> &[u8]
     &[]
 }
 
-/// Writes the bytes.
 fn put<K: Sink>(sink: &mut K, bytes: &[u8]) -> Result<(), WriteError>
     ensures { Writes K.taken K.faults bytes.now result sink.old sink.new }
 {
     write_whole(sink, bytes)
 }
 
-/// Writes two texts, one after the other.
 fn put_both<K: Sink>(sink: &mut K, front: &[u8], back: &[u8]) -> Result<(), WriteError>
     ensures { Writes K.taken K.faults (front.now ++ back.now) result sink.old sink.new }
 {
@@ -159,7 +154,7 @@ fn put_level<K: Sink>(sink: &mut K, level: u32) -> Result<(), WriteError>
     Ok(())
 }
 
-/// Writes a text and its end, behind the spaces of a level.
+/// Writes a text and its end after the spaces of a level.
 fn put_line<K: Sink>(sink: &mut K, level: u32, text: &[u8], end: &[u8]) -> Result<(), WriteError>
     ensures { Writes K.taken K.faults (indented level (text.now ++ end.now)) result sink.old sink.new }
 {
@@ -167,7 +162,7 @@ fn put_line<K: Sink>(sink: &mut K, level: u32, text: &[u8], end: &[u8]) -> Resul
     put_both(sink, text, end)
 }
 
-/// Writes each field behind a comma.
+/// Writes each field after a comma.
 fn put_fields<K: Sink>(sink: &mut K, fields: &[Text]) -> Result<(), WriteError>
     ensures { Writes K.taken K.faults (flat_map behind_comma fields.now) result sink.old sink.new }
 {
@@ -197,7 +192,6 @@ fn put_arm_head<K: Sink>(
     }
 }
 
-/// Writes the line of an arm.
 fn put_arm<K: Sink>(
     sink: &mut K,
     level: u32,

@@ -9,8 +9,7 @@ use crate::outside::{Sink, WriteOutcome};
 use std::alloc::{AllocError, Global};
 use std::marker::Model;
 
-/// A sink that keeps what it takes, up to its room. It takes a few bytes a call and fails at
-/// chosen calls (this project's own).
+/// A sink that keeps what it takes, up to its room. A call takes at most a chosen count of bytes, and chosen calls fail.
 #[derive(Debug, Drop)]
 pub struct MemorySink {
     bytes: Vec<u8>,
@@ -40,9 +39,8 @@ impl Model for MemorySink {
 }
 
 impl MemorySink {
-    /// An empty sink with room for exactly `room` bytes, which takes at most `step` of them a
-    /// call. It fails the calls whose numbers, from 1, are in `fails`; the number of a call stays
-    /// at 2^64 - 1 once it is there.
+    /// Makes an empty sink with room for exactly `room` bytes, which takes at most `step` of them a call. A call fails if its number, from
+    /// 1, is in `fails`. The number of a call stays at 2^64 - 1 once it is there.
     pub fn new(alloc: Global, room: usize, step: usize, fails: Vec<u64>) -> Result<Self, AllocError>
         requires { 1 ≤ step }
         ensures { IfOk result (λ sink.
@@ -58,7 +56,7 @@ impl MemorySink {
         })
     }
 
-    /// The bytes that were taken.
+    /// The bytes that the sink took.
     pub fn bytes(&self) -> &[u8]
         ensures { result.now ≡ self.now.taken }
     {
@@ -71,8 +69,8 @@ impl Sink for MemorySink {
 
     ghost faults = { λ s. s.faults };
 
-    /// Takes as many bytes as the step and the free room allow, and fails exactly where the call
-    /// is listed or no room is free. It takes no memory.
+    /// Takes as many bytes as the step and the free room allow. It fails if the call is listed or no room is free, and only then. It takes
+    /// no memory.
     fn write(&mut self, bytes: &[u8]) -> WriteOutcome
         requires { 0 < length bytes.now }
         ensures failed { (result ≡ WriteOutcome.Failed) ↔ IsTrue (refuses_next self.old) }
@@ -99,7 +97,7 @@ impl Sink for MemorySink {
     }
 }
 
-// Whether the write after this many calls fails, with so much room.
+// Whether the write after `calls` calls fails, if `free` bytes of room are free.
 fn is_refused(free: usize, fails: &[u64], calls: u64) -> bool
     ensures { result ≡ (free == 0 || is_listed calls fails.now) }
 {

@@ -7,8 +7,7 @@ use crate::calls::is_listed;
 use crate::outside::{ReadOutcome, Source};
 use std::marker::Model;
 
-/// A source of given bytes, which gives a few of them a call and fails at chosen calls (this
-/// project's own).
+/// A source of given bytes. A call gives at most a chosen count of them, and chosen calls fail.
 #[derive(Debug, Drop)]
 pub struct MemorySource {
     bytes: Vec<u8>,
@@ -37,9 +36,8 @@ impl Model for MemorySource {
 }
 
 impl MemorySource {
-    /// A source of these bytes, which gives at most `step` of them a call. It fails the calls
-    /// whose numbers, from 1, are in `fails`; the number of a call stays at 2^64 - 1 once it is
-    /// there.
+    /// Makes a source of these bytes, which gives at most `step` of them a call. A call fails if its number, from 1, is in `fails`. The
+    /// number of a call stays at 2^64 - 1 once it is there.
     pub fn new(bytes: Vec<u8>, step: usize, fails: Vec<u64>) -> Self
         requires { 1 ≤ step }
         ensures { result ≡ record { left = bytes.items; step = step; fails = fails.items; calls = 0; faults = 0 } }
@@ -60,8 +58,7 @@ impl Source for MemorySource {
 
     ghost faults = { λ s. s.faults };
 
-    /// Gives as many bytes as the step, the buffer and what is left allow, and fails exactly the
-    /// calls that are listed.
+    /// Gives as many bytes as the step, the buffer and the bytes left allow. It fails if the call is listed, and only then.
     fn read(&mut self, buf: &mut [u8]) -> ReadOutcome
         requires { 0 < length buf.old }
         ensures failed { (result ≡ ReadOutcome.Failed) ↔ IsTrue (is_listed self.old.calls self.old.fails) }

@@ -5,9 +5,8 @@ ghost use Rattle.meta_text.specs.Outcomes.{IfGot, OnEnd, KeepsRest};
 use crate::outside::{ReadOutcome, Sink, Source, WriteOutcome};
 use std::marker::Model;
 
-/// A source of given bytes and a sink that drops what it takes, neither of which ever fails (this
-/// project's own). It takes no memory, and its count of faults stays at 0. A contract sees the
-/// bytes that are left to read.
+/// A source of given bytes that is also a sink, which drops what it takes. It never fails. It takes no memory, and its count of faults
+/// stays at 0. A contract sees the bytes that are left to read.
 #[derive(Debug, Drop)]
 pub struct NeverFails {
     bytes: Vec<u8>,
@@ -25,7 +24,7 @@ impl Model for NeverFails {
 }
 
 impl NeverFails {
-    /// A source of these bytes, which is a sink too.
+    /// Makes a source of these bytes, which is a sink too.
     pub fn new(bytes: Vec<u8>) -> Self
         ensures { result ≡ bytes.items }
     {
@@ -38,7 +37,7 @@ impl Source for NeverFails {
 
     ghost faults = { λ _. 0 };
 
-    /// Gives as many bytes as the buffer and what is left allow.
+    /// Gives as many bytes as the buffer and the bytes left allow.
     fn read(&mut self, buf: &mut [u8]) -> ReadOutcome
         requires { 0 < length buf.old }
         ensures never_failed { result ≢ ReadOutcome.Failed }
@@ -69,7 +68,7 @@ impl Sink for NeverFails {
 
     ghost faults = { λ _. 0 };
 
-    /// Takes all of its bytes, and drops them.
+    /// Takes all of the bytes, and drops them.
     fn write(&mut self, bytes: &[u8]) -> WriteOutcome
         requires { 0 < length bytes.now }
         ensures all { result ≡ WriteOutcome.Wrote (length bytes.now) }

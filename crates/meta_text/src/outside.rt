@@ -2,39 +2,38 @@ ghost use Rattle.std.specs.Prelude.{◌≡◌, ◌≢◌, ℕ, ◌<◌, ◌≤�
 ghost use Rattle.meta_text.specs.Outside.{Rose, with_front, with_more, NothingLeft};
 ghost use Rattle.meta_text.specs.Outcomes.{IfGot, OnEnd, OnReadFailed, KeepsRest, IfWrote, OnWriteFailed};
 
-/// What a read did (this project's own).
+/// What a read did.
 #[derive(Clone, Copy, Debug, PartialEq, Eq)]
 pub enum ReadOutcome {
-    /// That many bytes, at least one, now stand at the front of the buffer.
+    /// This many bytes, at least one, are now at the front of the buffer.
     Got(usize),
     /// No byte is left.
     End,
-    /// Nothing was read, for a fault that the source counted.
+    /// Nothing was read, because of a fault, which the source counted.
     Failed,
 }
 
-/// What a write did (this project's own).
+/// What a write did.
 #[derive(Clone, Copy, Debug, PartialEq, Eq)]
 pub enum WriteOutcome {
-    /// The sink took that many bytes, at least one, from the front.
+    /// The sink took this many bytes, at least one, from the front.
     Wrote(usize),
-    /// Nothing was taken, for a fault that the sink counted.
+    /// Nothing was taken, because of a fault, which the sink counted.
     Failed,
 }
 
-/// Where bytes come from (this project's own).
+/// Where bytes come from.
 ///
-/// For contracts a source has the bytes that are left, if it tells them, and a count of its
-/// faults, which only a read that fails changes. Whether it tells its bytes changes in no call.
+/// A contract sees the bytes that are left, if the source is one whose bytes contracts see, such as one over memory. It also sees the
+/// source's count of faults, which only a read that fails changes. Whether contracts see the bytes changes in no call.
 pub trait Source {
-    // The bytes that are left, or `None` at a source that doesn't tell.
+    // The bytes that are left, or `None` if contracts don't see them.
     ghost left: { Self → Option (List ℕ) };
 
-    // How many faults there were, as far as the source counts them.
+    // The count of faults, as far as the source counts them.
     ghost faults: { Self → ℕ };
 
-    /// Reads the next bytes into the front of `buf`, which isn't empty, and leaves the rest of it as
-    /// it was.
+    /// Reads the next bytes into the front of `buf`, which isn't empty, and leaves the rest of `buf` as it was.
     fn read(&mut self, buf: &mut [u8]) -> ReadOutcome
         requires { 0 < length buf.old }
         ensures in_range { IfGot result (λ n. (1 ≤ n) × (n ≤ length buf.new)) }
@@ -48,15 +47,15 @@ pub trait Source {
         ensures counted { faults self.old ≤ faults self.new };
 }
 
-/// Where bytes go (this project's own).
+/// Where bytes go.
 ///
-/// For contracts a sink has the bytes that it took, if it tells them, and a count of its faults.
-/// Whether it tells its bytes changes in no call.
+/// A contract sees the bytes that the sink took, if the sink is one whose bytes contracts see, such as one over memory. It also sees the
+/// sink's count of faults. Whether contracts see the bytes changes in no call.
 pub trait Sink {
-    // The bytes that were taken, or `None` at a sink that doesn't tell.
+    // The bytes that were taken, or `None` if contracts don't see them.
     ghost taken: { Self → Option (List ℕ) };
 
-    // How many faults there were, as far as the sink counts them.
+    // The count of faults, as far as the sink counts them.
     ghost faults: { Self → ℕ };
 
     /// Writes bytes from the front of `bytes`, which isn't empty.

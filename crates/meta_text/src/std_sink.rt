@@ -7,7 +7,7 @@ ghost use Rattle.meta_text.specs.Outcomes.{IfWrote, OnWriteFailed, faults_after_
 use crate::outside::{Sink, WriteOutcome};
 use std::io::Write;
 
-/// A sink over any writer, as the standard output (this project's own). It tells no content.
+/// A sink over any writer, such as the standard output. Contracts don't see the bytes that it took.
 #[derive(Drop)]
 pub struct StdSink<W> {
     inner: W,
@@ -15,7 +15,7 @@ pub struct StdSink<W> {
 }
 
 impl<W: Write> StdSink<W> {
-    /// A sink over this writer, with no fault counted.
+    /// Makes a sink over this writer, with no fault counted.
     pub fn new(inner: W) -> Self
         ensures writer { writer_of result ≡ inner }
         ensures count { write_faults result ≡ 0 }
@@ -29,12 +29,12 @@ impl<W: Write> Sink for StdSink<W> {
 
     ghost faults = { write_faults };
 
-    /// Writes once, and flushes. An `Err` of the write or of the flush is a fault, and so is a
-    /// write that takes nothing. A fault raises the count by one until it stands at 2^64 - 1.
+    /// Writes once, and flushes. An `Err` of the write or of the flush is a fault, and so is a write that takes nothing. A fault raises the
+    /// count by one, until the count is 2^64 - 1.
     fn write(&mut self, bytes: &[u8]) -> WriteOutcome
         requires { 0 < length bytes.now }
 
-        // What the writer took, where the bytes that it holds are known.
+        // What the writer took, if contracts see the bytes that it holds.
         ensures wrote { IfWrote result (λ n. Appends (W.contents (writer_of self.old))
             (W.contents (writer_of self.new)) (take n bytes.now)) }
         ensures count { write_faults self.new ≡ faults_after_write (write_faults self.old) result }

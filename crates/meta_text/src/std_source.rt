@@ -7,10 +7,10 @@ ghost use Rattle.meta_text.specs.Outcomes.{IfGot, OnEnd, OnReadFailed, KeepsRest
 use crate::outside::{ReadOutcome, Source};
 use std::io::Read;
 
-// How many bytes a reader is asked for at most at a time.
+// The most bytes that a reader is asked for at a time.
 const BLOCK: usize = 8_192;
 
-/// A source over any reader, as the standard input (this project's own). It tells no content.
+/// A source over any reader, such as the standard input. Contracts don't see the bytes that it has left.
 #[derive(Drop)]
 pub struct StdSource<R> {
     inner: R,
@@ -18,7 +18,7 @@ pub struct StdSource<R> {
 }
 
 impl<R: Read> StdSource<R> {
-    /// A source over this reader, with no fault counted.
+    /// Makes a source over this reader, with no fault counted.
     pub fn new(inner: R) -> Self
         ensures reader { reader_of result ≡ inner }
         ensures count { read_faults result ≡ 0 }
@@ -32,15 +32,13 @@ impl<R: Read> Source for StdSource<R> {
 
     ghost faults = { read_faults };
 
-    /// Reads once, at most 8,192 bytes. An `Err` of the reader is a fault, which raises the count by
-    /// one until it stands at 2^64 - 1.
+    /// Reads once, at most 8,192 bytes. An `Err` of the reader is a fault, which raises the count by one, until the count is 2^64 - 1.
     ///
-    /// A reader may write behind the bytes that it gives, so it is handed a block of this call's
-    /// own, and what it gave is copied.
+    /// A reader may write past the bytes that it gives. So it gets a block of this call's own, and what it gave is copied.
     fn read(&mut self, buf: &mut [u8]) -> ReadOutcome
         requires { 0 < length buf.old }
 
-        // What the reader gave, where the bytes that it has left are known.
+        // What the reader gave, if contracts see the bytes that it has left.
         ensures got { IfGot result (λ n. Consumes (R.remaining (reader_of self.old)) (R.remaining (reader_of self.new)) (take n buf.new)) }
         ensures end { OnEnd result (IsAtEnd (R.remaining (reader_of self.new))) }
         ensures failed { OnReadFailed result (Keeps (R.remaining (reader_of self.old)) (R.remaining (reader_of self.new))) }

@@ -5,41 +5,41 @@ use crate::outside::{ReadOutcome, Sink, Source, WriteOutcome};
 use std::alloc::Global;
 use thiserror::Error;
 
-/// The most bytes that `read_whole` accepts (this project's own).
+/// The most bytes that `read_whole` accepts.
 pub const READ_LIMIT: usize = 1_048_576;
 
 // How many bytes `read_whole` asks for at a time.
 const BLOCK: usize = 8_192;
 
-/// Why a whole input was not read (this project's own).
+/// Why a whole input was not read.
 #[derive(Clone, Copy, Debug, Drop, PartialEq, Eq, Error)]
 pub enum ReadError {
-    /// A read failed.
+    /// A read of the source failed.
     #[error("ReadFault")]
     ReadFault,
     /// The source gave more than `READ_LIMIT` bytes.
     #[error("TooLong")]
     TooLong,
-    /// No memory was found for the bytes.
+    /// Memory ran out.
     #[error("OutOfMemory")]
     OutOfMemory,
 }
 
-/// Why a whole output was not written (this project's own).
+/// Why a whole output was not written.
 #[derive(Clone, Copy, Debug, Drop, PartialEq, Eq, Error)]
 pub enum WriteError {
-    /// A write failed.
+    /// A write to the sink failed.
     #[error("WriteFault")]
     WriteFault,
-    /// No memory was found for what was to be written.
+    /// Memory ran out for what was to be written.
     #[error("OutOfMemory")]
     OutOfMemory,
 }
 
-/// All bytes that the source had left, read up to its end (this project's own).
+/// Reads all bytes that the source has left, up to its end.
 ///
-/// `ReadFault` comes exactly where a read failed, and `TooLong` exactly where the source gave more
-/// than `READ_LIMIT` bytes in this call. After an error a front of the bytes was read.
+/// The error is `ReadFault` exactly if a read failed, and `TooLong` exactly if the source gave more than `READ_LIMIT` bytes in this call.
+/// After an error, a front of the bytes was read.
 #[tactic(auto, using(crate::proofs::Given::gave_none, crate::proofs::Given::gave_both))]
 pub fn read_whole<S: Source>(alloc: Global, source: &mut S) -> Result<Vec<u8>, ReadError>
     // On `Ok` the answer is what the source gave, up to its end.
@@ -47,11 +47,11 @@ pub fn read_whole<S: Source>(alloc: Global, source: &mut S) -> Result<Vec<u8>, R
     ensures end { OnOk result (NothingLeft (S.left source.new)) }
     ensures within { IfOk result (λ bytes. length bytes.items ≤ longest_input) }
 
-    // `TooLong` comes exactly where more than the limit was given.
+    // `TooLong` comes exactly if more than the limit was given.
     ensures too_long { IsErrOf result ReadError.TooLong → GaveMore longest_input (S.left source.old) (S.left source.new) }
     ensures else_within { ¬ IsErrOf result ReadError.TooLong → GaveAtMost longest_input (S.left source.old) (S.left source.new) }
 
-    // `ReadFault` comes exactly where a read failed.
+    // `ReadFault` comes exactly if a read failed.
     ensures fault { IsErrOf result ReadError.ReadFault → Rose (S.faults source.old) (S.faults source.new) }
     ensures else_no_fault { ¬ IsErrOf result ReadError.ReadFault → S.faults source.new ≡ S.faults source.old }
     ensures counted { S.faults source.old ≤ S.faults source.new }
@@ -75,10 +75,10 @@ pub fn read_whole<S: Source>(alloc: Global, source: &mut S) -> Result<Vec<u8>, R
     }
 }
 
-/// Writes all bytes to the sink, and takes no memory (this project's own).
+/// Writes all bytes to the sink, and takes no memory.
 ///
-/// Its only error is `WriteFault`, which comes only where a write failed. The sink then took a
-/// front of the bytes. Nothing is written for no bytes.
+/// The only error is `WriteFault`, which comes only where a write failed. The sink has then taken a front of the bytes, and not all of
+/// them. If there are no bytes, nothing is written.
 #[tactic(auto, using(crate::proofs::Taken::took_start, crate::proofs::Taken::took_next, crate::proofs::Taken::took_all, crate::proofs::Taken::took_part))]
 pub fn write_whole<K: Sink>(sink: &mut K, bytes: &[u8]) -> Result<(), WriteError>
     ensures ok { OnOk result (K.taken sink.new ≡ with_more (K.taken sink.old) bytes.now) }

@@ -1,4 +1,4 @@
--- What valid declarations reply to a question their tables reply.
+-- What valid declarations reply to a question, their tables reply too.
 use Rattle.std.proofs.Common.{◌≡◌, ◌↔◌, ℕ, ◌+◌, List, map, Option, None, Some, IfSome, refl, ap, ◌∙◌, subst, arith}
 use Rattle.std.specs.Option.{option_map}
 use Rattle.meta_lists.specs.First.{IsFirst}
@@ -24,7 +24,7 @@ number_is None a = refl
 number_is (Some t) a = (a, refl)
 
 module _ (d : InstructionSet) (tables : TableContents) (made : AreTablesOf d tables) where
-  -- what no instruction is called no opcode is called
+  -- if no instruction has the name, no opcode has it
   pub unknown_back : (q : Question) → HasTypes q → AcceptedReply d q Unknown → AllowedReply tables q Unknown
   unknown_back q asks h = λ op e.
       let (k, b, number, at, is) = opcode_is d tables made op q.name e in

@@ -29,13 +29,13 @@ use Rattle.meta_verify.specs.declared.statement.TypedNumber.{TypedNumber}
 use Rattle.meta_verify.specs.declared.statement.Application.{Application}
 use Rattle.meta_verify.proofs.EnvironmentLemmas.{number_back, redefined_here, redefined_later}
 
--- the numbers of the results' types are those that are held
+-- the numbers of the results' types are the stored ones
 pub result_numbers : (rs : List TypedNumber) → All IsTypedNumber rs
     → map number_of (map (λ (r : TypedValue). r.type) (map typed_value_of rs)) ≡ map (λ (r : TypedNumber). r.number) rs
 result_numbers [] h = refl
 result_numbers (r ∷ rs) h = ap₂ ◌∷◌ (All-head IsTypedNumber r rs h).number.numbered (result_numbers rs (All-tail IsTypedNumber r rs h))
 
--- what is allowed by the numbers that are held is what is asked
+-- what the tables allow by the stored numbers is what is asked
 module _ (tables : TableContents) (op : ℕ) (a : Application) (h : HasNumbers a) (ns : List ℕ) (known : All IsTypeNumber ns) where
   same_asked : Allows tables op a.control a.second (map (λ (r : TypedNumber). r.number) a.results.items) ns
       ≡ AllowsAsked tables op (question_of (applied a) (map type_with ns))
@@ -91,7 +91,7 @@ at_value m v = by_test (nat_eq (get_or m.near.items v 0) 0) (ap (λ test. option
 pub seen : (m : KnownTypes) (l : Entries) → entries_of m ≡ l → environment_of m ≡ definitions l
 seen m l e = (λ i v. at_value m v i) ∙ ap definitions e
 
--- the types that are held can be named
+-- the stored types can be named
 type_there : (o : Option ℕ) (t : TypeParts) → IfSome o IsTypeNumber → option_map type_with o ≡ Some t → IsType t
 type_there None t known e = absurd (cc)
 type_there (Some n) t known e = subst IsType (same_Some (type_with n) t e) known.is_type
@@ -117,7 +117,7 @@ fresh_there m l rs e h = ap (λ (env : Environment). first_redefined env rs) (se
 pub nothing_seen : (m : KnownTypes) (l : Entries) → entries_of m ≡ l → ((v : ℕ) → known_number m v ≡ None) → definitions l ≡ nothing_defined
 nothing_seen m l e none = sym (seen m l e) ∙ (λ i v. option_map type_with (none v i))
 
--- what is said by what is held is said by what a contract sees
+-- what is said of the stored values is said of what a contract sees
 module _ (tables : TableContents) (m : KnownTypes) (l : Entries) (s : Statement) (e : entries_of m ≡ l) (o : Option Reason) where
   pub mistake_seen : (reason : Reason) → o ≡ Some reason → IfSome o (λ r. IsMistake (AllowedReply tables) (environment_of m) s r)
       → IsMistake (AllowedReply tables) (definitions l) s reason
@@ -167,7 +167,7 @@ parameter_faultless env r R o e =
     by_test true is = tt
     by_test false is = parameter_right env r R is
 
--- what is decided so, and is said not to be
+-- what a false test decides isn't so
 pub says_no : (b : Bool) (P : Type 0) → (IsTrue b ↔ P) → b ≡ false → P → ⊥
 says_no b P decides off h = false≢true (sym off ∙ decides.1 h)
 

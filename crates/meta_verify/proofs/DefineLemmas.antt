@@ -47,7 +47,7 @@ module _ (types between : KnownTypes) (rs : List TypedNumber) (d : TypedNumber) 
   split : map typed_value_of rs ≡ typed_value_of (get_or rs 0 d) ∷ map typed_value_of (others_of rs)
   split = ap (map typed_value_of) (parted rs d some)
 
-  -- the others are put in behind it
+  -- the others are put in after it
   pub all_defined : (after : KnownTypes)
       → ((v : ℕ) → environment_of after v ≡ with_values (environment_of between) (map typed_value_of (others_of rs)) v) → (v : ℕ)
       → environment_of after v ≡ with_values (environment_of types) (map typed_value_of rs) v
@@ -72,7 +72,7 @@ module _ (types between : KnownTypes) (rs : List TypedNumber) (d : TypedNumber) 
     pub others_fresh : first_redefined (environment_of between) (map typed_value_of (others_of rs)) ≡ None
     others_fresh = ap (λ (env : Environment). first_redefined env (map typed_value_of (others_of rs))) put_there ∙ heads.1
 
-    -- it is taken back, where the others aren't there
+    -- it is taken back if the others couldn't be put in
     pub first_taken_back : (behind after : KnownTypes) → ((v : ℕ) → environment_of behind v ≡ environment_of between v)
         → ((v : ℕ) → known_number after v ≡ cond (nat_eq (get_or rs 0 d).value v) None (known_number behind v)) → (v : ℕ)
         → environment_of after v ≡ environment_of types v

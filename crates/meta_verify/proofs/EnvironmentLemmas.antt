@@ -68,7 +68,7 @@ pub redefined_later : (env : Environment) (r : TypedValue) (rs : List TypedValue
     → first_redefined env (r ∷ rs) ≡ first_redefined (with_value env r) rs
 redefined_later env r rs h = ap (λ b. cond b (Some r.value) (first_redefined (with_value env r) rs)) h
 
--- the values that are defined behind some results: those before and those seen
+-- the values that are defined after some results: those defined before, and those seen
 pub seen_step : (first env : Environment) (old new : ℕ → Bool) (r : TypedValue) → ((q : ℕ) → new q ≡ cond (nat_eq r.value q) true (old q))
     → ((v : ℕ) → is_some (env v) ≡ (is_some (first v) || old v)) → (v : ℕ) → is_some (with_value env r v) ≡ (is_some (first v) || new v)
 seen_step first env old new r h e v = by_test (nat_eq r.value v) ∙ ap (λ b. is_some (first v) || b) (sym (h v))
@@ -112,13 +112,13 @@ left_typed : (rs : List TypedNumber) (i : ℕ) (d : TypedNumber) → i < length 
     → map typed_value_of (drop i rs) ≡ typed_value_of (get_or rs i d) ∷ map typed_value_of (drop (i + 1) rs)
 left_typed rs i d l = ap (map typed_value_of) (drop_next rs i (get_or rs i d) (slice_get-get_or rs i d l))
 
--- the next is neither defined before nor seen
+-- the next result is neither defined before nor seen
 is_fresh : (a b : Bool) (c : Bool) → a ≡ false → true ≡ not b → c ≡ (a || b) → c ≡ false
 is_fresh false false c h k e = e
 is_fresh false true c h k e = absurd (cc)
 is_fresh true b c h k e = absurd (cc)
 
--- a value that isn't told to be defined before isn't
+-- a value that isn't found to be defined before isn't
 pub not_before : (b : Bool) (v : ℕ) (o : Option ℕ) → o ≡ cond b (Some v) None → is_some o ≡ false → b ≡ false
 not_before true v o e none =
     let both : true ≡ false = sym (ap is_some e) ∙ none in

@@ -1,4 +1,4 @@
--- What is wrong by the tables of declarations is wrong as they mean, and the other way round where they are valid.
+-- What is wrong by the tables of declarations is wrong by what they mean. If they are valid, the reverse holds too.
 use Rattle.std.proofs.Common.{◌≡◌, ◌↔◌, inl, inr, ℕ, ◌==◌, cond, Bool, true, false, List, [], ◌∷◌, map, take, length, All, Option, Some}
 use Rattle.std.proofs.Common.{None, IfSome, sym, subst}
 use Rattle.std.specs.Option.{option_map}
@@ -70,7 +70,7 @@ type_numbered : (n : Option ℕ) → IfSome n IsTypeNumber → IfSome (option_ma
 type_numbered None h = tt
 type_numbered (Some n) h = h.is_type
 
--- so can those of what the program holds
+-- the types of a stored statement can be named
 pub numbered_types : (s : held.Statement) → HasTypeNumbers s → GivesTypes (stated s)
 numbered_types (Parameter r) h = h.number.is_type
 numbered_types (Applied a) h = record {
@@ -89,11 +89,11 @@ question_typed a types can h = record {
   values = h;
 }
 
--- where no value is defined
+-- no value is defined, so all types can be named
 pub nothing_named : HasNamedTypes nothing_defined
 nothing_named v t e = absurd (cc)
 
--- ---- behind lines the types can still be named
+-- ---- after lines the types can still be named
 
 module _ (R : Replies) where
   answers_named : (env env' : Environment) (line : List ℕ) (answer : Option Reason) → HasNamedTypes env
@@ -191,7 +191,7 @@ module _ (d : InstructionSet) (tables : TableContents) (made : AreTablesOf d tab
             (unknown_back d tables made) h.before h.behind h.line answer named h.fed;
       }
 
-  -- and where the declarations are valid
+  -- the same, and the declarations are valid
   module _ (valid : IsValid d) where
     module _ (env : Environment) (named : HasNamedTypes env) where
       pub mistake_means : (s : Statement) → GivesTypes s → (reason : Reason)

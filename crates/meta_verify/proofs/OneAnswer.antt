@@ -1,4 +1,4 @@
--- Where a question has one reply at most, a line has one answer at most, and an input one verdict.
+-- If a question has at most one reply, a line has at most one answer, and an input at most one verdict.
 use Rattle.std.proofs.Common.{◌≡◌, ◌⊎◌, inl, inr, ℕ, ◌+◌, ◌<◌, Bool, true, false, List, [], ◌∷◌, map, take, Option, None, Some, refl, sym}
 use Rattle.std.proofs.Common.{ap, ap₂, ◌∙◌, subst}
 use Rattle.std.proofs.lemmas.Bool.{cases_order}
@@ -17,7 +17,7 @@ use Rattle.meta_verify.specs.declared.reason.Reason.{Reason}
 use Rattle.meta_verify.specs.declared.reason.Reason.TheVariants.{Bad, Unknown, Undefined, Redefined, Refused}
 use Rattle.meta_verify.proofs.StatementLemmas.{one_statement}
 
--- values have one list of types
+-- values have at most one list of types
 same_found : (ts us : List TypeParts) → map (λ t. Some t) ts ≡ map (λ t. Some t) us → ts ≡ us
 same_found [] [] e = refl
 same_found [] (u ∷ us) e = absurd (cc)
@@ -49,7 +49,7 @@ module _ (R : Replies) (one : (q : Question) (r s : Reply) → R q r → R q s �
   right_is_none env s (Redefined v) h (known, u, r) = let e : None ≡ Some v = sym h.fresh ∙ r in absurd (cc)
   right_is_none env s Refused h (known, u, r, refused) = not_both env s h.accepted refused
 
-  -- what is stated has one mistake
+  -- a statement has at most one mistake
   pub one_mistake : (env : Environment) (s : Statement) (a b : Reason) → IsMistake R env s a → IsMistake R env s b → a ≡ b
   one_mistake env s Bad b h g = absurd h
   one_mistake env s a Bad h g = absurd g
@@ -70,7 +70,7 @@ module _ (R : Replies) (one : (q : Question) (r s : Reply) → R q r → R q s �
   one_mistake env s Refused (Redefined w) (known, u, r, refused) (other, t, q) = let e : None ≡ Some w = sym r ∙ q in absurd (cc)
   one_mistake env s Refused Refused h g = refl
 
-  -- so is a line wrong for one reason
+  -- a line is wrong for at most one reason
   one_wrong : (env : Environment) (line : List ℕ) (a b : Reason) → IsWrong R env line a → IsWrong R env line b → a ≡ b
   one_wrong env line a b (inl (s, states, h)) (inl (t, also, g)) =
       one_mistake env s a b h (subst (λ x. IsMistake R env x b) (one_statement line t s also states) g)
@@ -84,7 +84,7 @@ module _ (R : Replies) (one : (q : Question) (r s : Reply) → R q r → R q s �
       right_is_none env s reason h (subst (λ x. IsMistake R env x reason) (one_statement line t s also states) g)
   not_wrong env line s reason (states, h) (inr (bad, none)) = none s states
 
-  -- a line has one answer, and leads to one environment
+  -- a line has at most one answer, and leads to at most one environment
   one_answer : (env e f : Environment) (line : List ℕ) (a b : Option Reason) → AnswersLine R env line a e → AnswersLine R env line b f
       → (a ≡ b) × (e ≡ f)
   one_answer env e f line None None (s, (states, h), is) (t, (also, g), too) =
@@ -98,13 +98,13 @@ module _ (R : Replies) (one : (q : Question) (r s : Reply) → R q r → R q s �
   one_fed env e f [] a b (none, is) (nothing, too) = (none ∙ sym nothing, is ∙ sym too)
   one_fed env e f (c ∷ cs) a b h g = one_answer env e f (c ∷ cs) a b h g
 
-  -- lines lead to one environment
+  -- lines lead to at most one environment
   one_lead : (env : Environment) (lines : List (List ℕ)) (e f : Environment) → LeadTo R env lines e → LeadTo R env lines f → e ≡ f
   one_lead env [] e f h g = h ∙ sym g
   one_lead env (line ∷ lines) e f (a, m, fed, rest) (b, n, also, others) =
       one_lead n lines e f (subst (λ x. LeadTo R x lines e) (one_fed env m n line a b fed also).1 rest) others
 
-  -- so has a line among others one answer
+  -- a line among others has at most one answer
   pub one_answered : (lines : List (List ℕ)) (n : ℕ) (a b : Option Reason) → IsAnsweredAt R lines n a → IsAnsweredAt R lines n b → a ≡ b
   one_answered lines n a b h g =
       let line : h.line ≡ g.line = same_Some h.line g.line (sym h.at ∙ g.at) in
@@ -129,7 +129,7 @@ module _ (R : Replies) (one : (q : Question) (r s : Reply) → R q r → R q s �
       by_order (inr (inl l)) = absurd (g.before.none_wrong n a l h.wrong)
       by_order (inr (inr l)) = absurd (h.before.none_wrong m b l g.wrong)
 
-  -- and an input has one verdict
+  -- an input has at most one verdict
   pub one_said : (input : List ℕ) (a b : Bool) (s t : List ℕ) → IsVerdict R input a s → IsVerdict R input b t → (a ≡ b) × (s ≡ t)
   one_said input false false s t (right, is) (also, too) = (refl, is ∙ sym too)
   one_said input false true s t (right, is) (n, reason, first, too) =

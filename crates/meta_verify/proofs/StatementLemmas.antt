@@ -83,14 +83,14 @@ no_colon word first pieces r h e =
     let names : value_text r.value ∷ name_of r.type ∷ [] ≡ first ∷ [] = sym (typed_parted r h) ∙ ap (pieces_of 58) (sym e) ∙ pieces in
     absurd (cc)
 
--- nor is one whose first piece is no value
+-- a word whose first piece is no value is no typed value
 pub no_value : (word first : List ℕ) (others : List (List ℕ)) → pieces_of 58 word ≡ first ∷ others
     → ((v : ℕ) → IsValue v → first ≢ value_text v) → (r : TypedValue) → IsTyped r → word ≢ typed_text r
 no_value word first others pieces none r h e =
     let names : value_text r.value ∷ name_of r.type ∷ [] ≡ first ∷ others = sym (typed_parted r h) ∙ ap (pieces_of 58) (sym e) ∙ pieces in
     none r.value h.value (cc)
 
--- nor one whose second part names no type
+-- a word whose second part names no type is no typed value
 pub no_type : (word first rest : List ℕ) → pieces_of 58 word ≡ first ∷ pieces_of 58 rest → ((t : TypeParts) → IsType t → name_of t ≢ rest)
     → (r : TypedValue) → IsTyped r → word ≢ typed_text r
 no_type word first rest pieces none r h e =
@@ -204,7 +204,7 @@ no_param_word line none value name e =
     none (97 ∷ 114 ∷ 97 ∷ 109 ∷ 32 ∷ join_with_byte 32 (value ∷ name ∷ [])) (sym (join_with_byte-slice_split 32 line)
     ∙ ap (join_with_byte 32) e)
 
--- nor is one whose words are no value or no type
+-- a line is no parameter if its words are no value or no type
 pub no_parameter_value : (line value name : List ℕ) → pieces_of 32 line ≡ codes "param" ∷ value ∷ name ∷ []
     → ((v : ℕ) → IsValue v → value ≢ value_text v) → (r : TypedValue) → IsStatement line (OfParameter r) → ⊥
 no_parameter_value line value name pieces none r h =
@@ -224,7 +224,7 @@ pub no_application : (line : List ℕ) → ((name control results values : List 
 no_application line none a h = none a.name (control_text a.control a.second) (list_text (map typed_text a.results))
     (list_text (map value_text a.values)) (name_has_bytes line a h) (pieces_are line (OfApplication a) h)
 
--- ---- a line states one thing at most
+-- ---- a line states at most one thing
 
 pub one_statement : (line : List ℕ) (s t : Statement) → IsStatement line s → IsStatement line t → s ≡ t
 one_statement line (OfParameter r) (OfParameter q) h k =

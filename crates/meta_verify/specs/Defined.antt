@@ -1,5 +1,5 @@
--- Which values are held to be defined.
---     known_number types v     the number of the type of a value, where it is defined
+-- Which values are stored as defined.
+--     known_number types v     the number of the type of a value, if it is defined
 --     definitions entries      the values that are defined, with their types
 use Rattle.std.specs.Prelude.{ℕ, nat_eq, ◌==◌, List, map, slice_index, Option, Some, IfSome, if◌then◌else◌}
 use Rattle.std.specs.Ordering.{nat_cmp}
@@ -11,7 +11,7 @@ use Rattle.meta_types.specs.TypeNumber.{type_with, IsTypeNumber}
 use Rattle.meta_verify.specs.Environment.{Environment}
 use Rattle.meta_verify.specs.declared.known.KnownTypes.{KnownTypes}
 
--- the number of the type of a value: that at its place in the list, or where there is none, which 0 says, that of the map
+-- the number of the type of a value: the one at its place in the list, or, if it is missing there, which 0 says, the one in the map
 abbrev pub known_number : KnownTypes → ℕ → Option ℕ
 known_number types v = if slice_index types.near.items v == 0 then get nat_cmp types.others v else Some (slice_index types.near.items v)
 
@@ -23,7 +23,7 @@ environment_of types v = option_map type_with (known_number types v)
 abbrev pub AreTypeNumbers : KnownTypes → Type 0
 AreTypeNumbers types = (v : ℕ) → IfSome (known_number types v) IsTypeNumber
 
--- the numbers of the types of the first values, by value, 0 for one that isn't there; and other values with their types, in order
+-- the numbers of the types of the first values, by value, 0 for one that is missing; and other values with their types, in order
 abbrev pub Entries : Type 0
 Entries = List ℕ × List (ℕ × TypeParts)
 

@@ -15,7 +15,7 @@ nothing_defined v = None
 abbrev pub with_value : Environment → TypedValue → Environment
 with_value env r v = if r.value == v then Some r.type else env v
 
--- the values more, in order
+-- these values more, in order
 abbrev pub with_values : Environment → List TypedValue → Environment
 with_values env [] = env
 with_values env (r ∷ rs) = with_values (with_value env r) rs

@@ -1,6 +1,6 @@
 -- What is said of a list of lines.
---     LeadTo R env lines env'                  behind lines that define env, these lead to env'
---     IsAnsweredAt R lines n answer            the answer to line n, behind those before it
+--     LeadTo R env lines env'                  after lines that define env, these lead to env'
+--     IsAnsweredAt R lines n answer            the answer to line n, after those before it
 --     IsVerdict R input is_rejection text      the text says whether the input is right, or which line is the first wrong one, and why
 use Rattle.std.specs.Prelude.{◌≡◌, ℕ, ◌+◌, ◌<◌, Bool, true, false, List, [], ◌∷◌, ◌++◌, take, length, slice_get, Option, None, Some, codes}
 use Rattle.std.specs.Fmt.{decimal}
@@ -10,14 +10,13 @@ use Rattle.meta_verify.specs.Reason.{reason_text}
 use Rattle.meta_verify.specs.Wrong.{Replies, Feeds}
 use Rattle.meta_verify.specs.declared.reason.Reason.{Reason}
 
--- The environment behind lines, which stand behind others that define env: each right line adds what it defines, and a wrong one
--- nothing.
+-- The environment after lines, which come after others that define env: each right line adds what it defines, and a wrong one nothing.
 abbrev pub LeadTo : Replies → Environment → List (List ℕ) → Environment → Type 0
 LeadTo R env [] env' = env' ≡ env
 LeadTo R env (line ∷ lines) env' =
     (answer : Option Reason) × (between : Environment) × Feeds R env line answer between × LeadTo R between lines env'
 
--- the line at this place, counted from 0, has this answer behind those before it
+-- the line at this place, from 0, has this answer after the lines before it
 pub record IsAnsweredAt (R : Replies) (lines : List (List ℕ)) (n : ℕ) (answer : Option Reason) : Type 0 where
   pub line : List ℕ
   pub at : slice_get lines n ≡ Some line
@@ -26,16 +25,16 @@ pub record IsAnsweredAt (R : Replies) (lines : List (List ℕ)) (n : ℕ) (answe
   pub behind : Environment
   pub fed : Feeds R before line answer behind
 
--- it is wrong, for this reason
+-- the line at this place is wrong, for this reason
 abbrev pub IsWrongAt : Replies → List (List ℕ) → ℕ → Reason → Type 0
 IsWrongAt R lines n reason = IsAnsweredAt R lines n (Some reason)
 
--- each of the first so many lines is right, or empty, and none of them is wrong
+-- each of the first `count` lines is right, or empty, and none of them is wrong
 pub record AreRightTo (R : Replies) (lines : List (List ℕ)) (count : ℕ) : Type 0 where
   pub each : (n : ℕ) → n < count → IsAnsweredAt R lines n None
   pub none_wrong : (n : ℕ) (reason : Reason) → n < count → IsWrongAt R lines n reason → ⊥
 
--- the same of all of them
+-- the same for all of them
 abbrev pub AreRight : Replies → List (List ℕ) → Type 0
 AreRight R lines = AreRightTo R lines (length lines)
 
@@ -44,15 +43,15 @@ pub record IsFirstWrong (R : Replies) (lines : List (List ℕ)) (n : ℕ) (reaso
   pub wrong : IsWrongAt R lines n reason
   pub before : AreRightTo R lines n
 
--- what is said where no line is wrong
+-- the text if no line is wrong
 abbrev pub right_text : List ℕ
 right_text = codes "ok" ++ 10 ∷ []
 
--- what is said of the first wrong line, by its number, which counts from 1
+-- the text on the first wrong line, by its number, which counts from 1
 abbrev pub wrong_text : ℕ → Reason → List ℕ
 wrong_text number reason = codes "line " ++ (decimal number ++ (codes ": " ++ (reason_text reason ++ 10 ∷ [])))
 
--- what is said of an input: a rejection where a line is wrong
+-- the text on an input; it is a rejection if a line is wrong
 abbrev pub IsVerdict : Replies → List ℕ → Bool → List ℕ → Type 0
 IsVerdict R input false text = AreRight R (lines_of input) × (text ≡ right_text)
 IsVerdict R input true text = (n : ℕ) × (reason : Reason) × IsFirstWrong R (lines_of input) n reason × (text ≡ wrong_text (n + 1) reason)

@@ -11,11 +11,11 @@ use Rattle.meta_run.specs.declared.ending.Ending.TheVariants.{Done, OutOfMemory,
 use Rattle.meta_verify.specs.Verdict.{right_text, wrong_text, AreRight, IsFirstWrong, IsVerdict}
 use Rattle.meta_verify.specs.declared.reason.Reason.{Reason}
 
--- what is said of an input over declarations, as they mean
+-- the text on an input over declarations, as they mean
 abbrev pub verdicts : Texts
 verdicts d input is_rejection text = IsVerdict (AcceptedReply d.set) input is_rejection text
 
--- a source and a sink, by what they tell, before and after a run over declarations
+-- a source and a sink, by what contracts see of them, before and after a run over declarations
 module _ {S K : Type 0} (left : S → Option (List ℕ)) (reads : S → ℕ) (taken : K → Option (List ℕ)) (writes : K → ℕ)
     (d : Declared) (s s' : S) (k k' : K) where
   -- the run is done, no line of the input is wrong, and the sink took exactly `ok`
@@ -29,8 +29,8 @@ module _ {S K : Type 0} (left : S → Option (List ℕ)) (reads : S → ℕ) (ta
       (ending ≡ Rejected) × (n : ℕ) × (reason : Reason) × IsFirstWrong (AcceptedReply d.set) (lines_of input) n reason
       × (taken k' ≡ Some (before ++ wrong_text (n + 1) reason))
 
-  -- Where there are no words and the declarations are valid, memory didn't run out, the source told its bytes and gave at most the
-  -- limit, and no count rose, one of the two is said of what was left.
+  -- If there are no words and the declarations are valid, memory didn't run out, contracts see the bytes of the source, which are at most
+  -- the limit, and those that the sink had taken, and no count rose, then one of the two is said of the bytes that were left.
   abbrev pub ChecksLines : List (List ℕ) → Ending → Type 0
   ChecksLines words ending =
       words ≡ [] → AreValid d → ending ≢ OutOfMemory → (input before : List ℕ)

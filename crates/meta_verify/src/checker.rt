@@ -18,7 +18,7 @@ use meta_gen::Tables;
 use std::alloc::{AllocError, Global};
 use std::marker::Model;
 
-/// Which values the lines so far define, and of which types. A contract sees them by `definitions` (this project's own).
+/// The values that the lines so far define, with their types. A contract sees them by `definitions`.
 #[derive(Drop)]
 pub struct Checker {
     types: KnownTypes,
@@ -38,7 +38,7 @@ impl Model for Checker {
 }
 
 impl Checker {
-    /// No value is defined.
+    /// Makes a checker that has no value defined.
     pub fn new(alloc: Global) -> Checker
         ensures { definitions result ≡ nothing_defined }
     {
@@ -49,7 +49,7 @@ impl Checker {
         }
     }
 
-    /// The number of the type of the value, and `None` exactly where the value isn't defined.
+    /// The number of the type of the value. It is `None` exactly if the value isn't defined.
     pub fn type_of(&self, value: u32) -> Option<u16>
         ensures value { result ≡ option_map number_of (definitions self.now value) }
         ensures named { HasNamedTypes (definitions self.now) }
@@ -57,8 +57,8 @@ impl Checker {
         self.types.get(value)
     }
 
-    /// Why what is stated is wrong, by the tables, and `None` exactly where it is right. It tells besides, as `type_of` does, that the
-    /// types of all defined values can be named.
+    /// Why what is stated is wrong, by the tables. It is `None` exactly if what is stated is right. As for `type_of`, a clause says too
+    /// that the types of all defined values can be named.
     pub fn mistake(
         &self,
         tables: &Tables,
@@ -75,7 +75,7 @@ impl Checker {
         mistake_of(self.alloc, &self.types, tables, statement, &mut lists)
     }
 
-    /// Defines what is stated, of which nothing is defined before. Where there is no memory for all of it, nothing more is defined.
+    /// Defines the values of a statement, of which none is defined before. If memory runs out, nothing more is defined.
     fn define(&mut self, statement: &Statement<'_>) -> Result<(), AllocError>
         requires known { HasTypeNumbers statement.now }
         requires fresh { first_redefined (definitions self.old) (spec.defined_by (stated statement.now)) ≡ None }
@@ -88,7 +88,7 @@ impl Checker {
         }
     }
 
-    /// Defines what is stated where it is right by the tables, and else says why it is wrong.
+    /// Defines the values of a statement if it is right by the tables, and else answers why it is wrong.
     fn add(
         &mut self,
         tables: &Tables,
@@ -107,9 +107,9 @@ impl Checker {
         Ok(None)
     }
 
-    /// Why the line is wrong behind those so far, by the tables, and `None` for one that is right, or empty. Exactly then what the line
-    /// defines is defined from now on. It costs the length of the line, and a look-up for each value. The only error is want of memory,
-    /// and it leaves all as it was.
+    /// Checks a line, which comes after those so far, by the tables. The answer is why the line is wrong. It is `None` for a line that is
+    /// right or empty, and only then what the line defines is defined from now on. The cost is the length of the line, and a look-up for
+    /// each value. If memory runs out, nothing changes.
     pub fn feed(&mut self, tables: &Tables, line: &[u8]) -> Result<Option<Reason>, AllocError>
         ensures fed { IfOk result (λ answer.
             Feeds (AllowedReply tables.now.opcodes) (definitions self.old) line.now answer (definitions self.new)) }

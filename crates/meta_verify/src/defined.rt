@@ -9,7 +9,7 @@ use super::statement::TypedNumber;
 use std::alloc::{AllocError, Global};
 use std::collections::BTreeSet;
 
-/// The numbers of the types of the values, into the list in place of what was there, or the first value that isn't defined.
+/// Puts the numbers of the types of the values into the list, in place of what it had. Answers the first value that isn't defined.
 pub(crate) fn look_up(
     types: &KnownTypes,
     values: &[u32],
@@ -30,14 +30,14 @@ pub(crate) fn look_up(
     Ok(None)
 }
 
-/// The value, where it is defined.
+/// The value, if it is defined.
 pub(crate) fn defined_before(types: &KnownTypes, value: u32) -> Option<u32>
     ensures { result ≡ (if is_some (environment_of types.now value) then Some value else None) }
 {
     types.get(value).is_some().then_some(value)
 }
 
-/// The first of the results that is defined before, or further left in the list. One alone takes no memory.
+/// The first of the results that is defined before, or further left in the list. For a single result it takes no memory.
 pub(crate) fn redefined(
     alloc: Global,
     types: &KnownTypes,
@@ -62,8 +62,8 @@ pub(crate) fn redefined(
     Ok(None)
 }
 
-/// Defines the results, none of which is defined before, or twice. Where there is no memory for all of them, those that were put in
-/// are taken back. It goes as deep as there are results, of which an instruction that accepts them has seven at most.
+/// Defines the results, none of which is defined before, or twice. If memory runs out, those that were put in are taken back. The calls
+/// nest as deep as there are results, at most seven for an instruction that accepts them.
 pub(crate) fn define_all(types: &mut KnownTypes, results: &[TypedNumber]) -> Result<(), AllocError>
     requires fresh { first_redefined (environment_of types.old) (map typed_value_of results.now) ≡ None }
     requires numbered { All IsTypedNumber results.now }

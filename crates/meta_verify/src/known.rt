@@ -5,10 +5,10 @@ ghost use Rattle.meta_verify.specs.Defined.{known_number};
 use std::alloc::{AllocError, Global};
 use std::collections::BTreeMap;
 
-/// How far a value may stand behind those of the list to come into it. So the list has at most this many places for each value.
+/// How far after the values of the list a value may be to come into it. So the list has at most this many places for each value.
 const NEAR: usize = 16;
 
-/// Whether the value stands too far behind those of the list to come into it.
+/// Whether the value is too far after those of the list to come into it.
 fn is_far(near: &[u16], value: u32) -> bool
     ensures { result ≡ true → length near.now ≤ value }
 {
@@ -16,7 +16,7 @@ fn is_far(near: &[u16], value: u32) -> bool
     place >= len && place - len >= NEAR
 }
 
-/// Makes the list so long that the value has a place in it: 0 stands at the new ones.
+/// Makes the list long enough to have a place for the value. New places have 0.
 fn make_room(near: &mut Vec<u16>, value: u32) -> Result<(), AllocError>
     ensures room { OnOk result (value < length near.new.items) }
     ensures same { (v : ℕ) → slice_index near.new.items v ≡ slice_index near.old.items v }
@@ -28,13 +28,13 @@ fn make_room(near: &mut Vec<u16>, value: u32) -> Result<(), AllocError>
     near.resize(place + 1, 0)
 }
 
-/// The numbers of the types of the values that are defined. Lists of lines mostly count their values from 0 on: such a value is looked
-/// up by its place. Whatever values are chosen, a look-up takes no longer than one in an ordered map (this project's own).
+/// The numbers of the types of the values that are defined. Lists of lines mostly count their values from 0 on, and such a value is looked
+/// up by its place. Whatever values are chosen, a look-up takes no longer than one in an ordered map.
 #[derive(Drop)]
 pub(crate) struct KnownTypes {
-    /// Those of the first values, by value: 0 for one that isn't here.
+    /// The numbers for the first values, by value: 0 for a value that isn't in the list.
     near: Vec<u16>,
-    /// Those of others.
+    /// The numbers for other values.
     others: BTreeMap<u32, u16>,
 }
 
@@ -60,7 +60,7 @@ impl KnownTypes {
         self.others.get(&value).copied()
     }
 
-    /// Defines the value. Where there is no memory for it, nothing changes.
+    /// Defines the value. If memory runs out, nothing changes.
     pub(crate) fn insert(&mut self, value: u32, number: u16) -> Result<(), AllocError>
         requires { IsTypeNumber number }
         ensures defined { OnOk result ((v : ℕ) → known_number self.new v

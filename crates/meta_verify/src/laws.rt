@@ -14,10 +14,10 @@ ghost use Rattle.meta_verify.specs.Verdict.{LeadTo, IsAnsweredAt, IsVerdict};
 ghost use Rattle.meta_verify.specs.Verifier.{verdicts};
 ghost use Rattle.meta_verify.specs.Wrong.{IsMistake, IsFaultless, Feeds};
 
-/// What tables answer to a line, behind the lines before it, is what the declarations mean, where the tables are those of the
-/// declarations, and their decoding allows what the declarations accept, as it does of tables that `generate` makes. So is what they
-/// say of a whole input, where the declarations are valid. Then tables and declarations have one answer to a line, too, and lead to one
-/// environment, behind any lines that define values of types that can be named.
+/// Checking by the tables of declarations gives what the declarations mean, if the decoding of the tables allows what the declarations
+/// accept, as for tables that `generate` makes. This holds for the answer to a line after any lines before it. If the declarations are
+/// valid, it also holds for the text on a whole input, and tables and declarations answer a line alike and lead to one environment, after
+/// any lines that define values of types that can be named.
 pub fn verdicts_mean()
     ensures line { (d : InstructionSet) (t : TableContents) → AreTablesOf d t
         → ((op : ℕ) (c e : Option ℕ) (rs vs : List ℕ) → (Allows t op c e rs vs ↔ AcceptsOpcode d op c e rs vs))
@@ -37,9 +37,9 @@ pub fn verdicts_mean()
         → (LeadTo (AllowedReply t) env lines behind ↔ LeadTo (AcceptedReply d) env lines behind) }
 {}
 
-/// By tables of valid declarations what is stated is right, or wrong for a reason, exactly where the declarations mean it, behind lines
-/// that define values of types that can be named. The types that are stated can be named, too, as of each statement that
-/// `Checker::mistake` takes.
+/// By tables of valid declarations, what is stated is right, or wrong for a reason, exactly if it is by what the declarations mean. The
+/// lines before must define values of types that can be named, and the types that are stated must have names, as those of each statement
+/// that `Checker::mistake` takes.
 pub fn mistakes_mean()
     ensures types { (s : Statement) → HasTypeNumbers s → spec.GivesTypes (stated s) }
     ensures mistake { (d : InstructionSet) (t : TableContents) → IsValid d → AreTablesOf d t
@@ -52,7 +52,7 @@ pub fn mistakes_mean()
         → (IsFaultless (AllowedReply t) env s ↔ IsFaultless (AcceptedReply d) env s) }
 {}
 
-/// Where the type of each value can be named, it can be behind any lines. So it can where no value is defined.
+/// If the type of each value can be named, it still can after any lines. If no value is defined, all types can be named.
 pub fn types_stay_named()
     ensures nothing { HasNamedTypes nothing_defined }
     ensures tables { (t : TableContents) (env behind : Environment) (lines : List (List ℕ)) → HasNamedTypes env
@@ -61,12 +61,12 @@ pub fn types_stay_named()
         → LeadTo (AcceptedReply d) env lines behind → HasNamedTypes behind }
 {}
 
-/// A line states one thing at most.
+/// A line states at most one thing.
 pub fn one_statement()
     ensures { (line : List ℕ) (s t : spec.Statement) → spec.IsStatement line s → spec.IsStatement line t → s ≡ t }
 {}
 
-/// What is stated is wrong for one reason at most, and for none where it is right: by tables, and as valid declarations mean.
+/// What is stated is wrong for at most one reason, and for none if it is right: by tables, and as valid declarations mean.
 pub fn one_mistake()
     ensures tables { (t : TableContents) (env : Environment) (s : spec.Statement) (a b : Reason)
         → IsMistake (AllowedReply t) env s a → IsMistake (AllowedReply t) env s b → a ≡ b }
@@ -78,8 +78,8 @@ pub fn one_mistake()
         → IsFaultless (AcceptedReply d) env s → IsMistake (AcceptedReply d) env s a → ⊥ }
 {}
 
-/// A line has one answer at most, and leads to one environment: by tables, and as valid declarations mean. So it is never both right
-/// and wrong.
+/// A line has at most one answer, and leads to at most one environment: by tables, and as valid declarations mean. So it is never both
+/// right and wrong.
 pub fn one_answer()
     ensures tables { (t : TableContents) (env e f : Environment) (line : List ℕ) (a b : Option Reason)
         → Feeds (AllowedReply t) env line a e → Feeds (AllowedReply t) env line b f → (a ≡ b) × (e ≡ f) }
@@ -87,7 +87,7 @@ pub fn one_answer()
         → Feeds (AcceptedReply d) env line a e → Feeds (AcceptedReply d) env line b f → (a ≡ b) × (e ≡ f) }
 {}
 
-/// One thing is said of an input at most: by tables, and as valid declarations mean.
+/// An input has at most one verdict: by tables, and as valid declarations mean.
 pub fn one_verdict()
     ensures tables { (tables : TableContents) (input : List ℕ) (a b : Bool) (s t : List ℕ)
         → IsVerdict (AllowedReply tables) input a s → IsVerdict (AllowedReply tables) input b t → (a ≡ b) × (s ≡ t) }

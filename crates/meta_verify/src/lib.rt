@@ -1,7 +1,7 @@
 //! A checker of lists of typed lines: each line is a parameter, or an instruction applied to values.
 //!
-//! `Checker` keeps which values are defined, and of which types, and says of each line whether it is right by tables, or why it is
-//! wrong. `verify` says the same of a whole input, over declarations.
+//! `Checker` keeps which values are defined, and of which types, and says of each line whether it is right by tables, or why it is wrong.
+//! `verify` says the same for a whole input, over declarations.
 #![tactic(auto)]
 
 mod checker;

@@ -6,7 +6,7 @@ use super::statement::{Statement, TypedNumber};
 use std::alloc::Global;
 use std::mem::replace;
 
-/// Lists that a line's are made in, and that serve for all lines, one after another (this project's own).
+/// The lists that the parts of a line are read into. They serve for all lines, one after another.
 #[derive(Drop)]
 pub(crate) struct Lists {
     /// For the results of a line.
@@ -21,7 +21,7 @@ pub(crate) struct Lists {
 }
 
 impl Lists {
-    /// Lists of nothing.
+    /// Lists that are empty.
     pub(crate) fn new(alloc: Global) -> Lists
         ensures results { result.results.items ≡ [] }
         ensures values { result.values.items ≡ [] }
@@ -49,7 +49,7 @@ impl Lists {
         replace(&mut self.values, Vec::new(self.alloc))
     }
 
-    /// Takes back those of a statement that isn't needed any more.
+    /// Takes back the lists of a statement that isn't needed any more.
     pub(crate) fn keep(&mut self, statement: Statement<'_>)
         ensures results { (a : Application) → statement.entry ≡ Applied a → self.new.results ≡ a.results }
         ensures values { (a : Application) → statement.entry ≡ Applied a → self.new.values ≡ a.values }

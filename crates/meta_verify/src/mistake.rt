@@ -14,7 +14,7 @@ use super::statement::{Application, Statement, TypedNumber};
 use meta_gen::Tables;
 use std::alloc::{AllocError, Global};
 
-/// The numbers of the types of the results, into the list in place of what was there.
+/// Puts the numbers of the types of the results into the list, in place of what it had.
 fn put_numbers(results: &[TypedNumber], numbers: &mut Vec<u16>) -> Result<(), AllocError>
     ensures { OnOk result (numbers.new.items ≡ map (λ r. r.number) results.now) }
 {
@@ -25,7 +25,7 @@ fn put_numbers(results: &[TypedNumber], numbers: &mut Vec<u16>) -> Result<(), Al
     Ok(())
 }
 
-/// Why a parameter is wrong: where it is defined before.
+/// Why a parameter is wrong: it is defined before.
 fn mistake_of_parameter(types: &KnownTypes, parameter: &TypedNumber) -> Option<Reason>
     ensures { result ≡ (if is_some (environment_of types.now parameter.now.value) then Some (Redefined parameter.now.value) else None) }
 {
@@ -33,7 +33,7 @@ fn mistake_of_parameter(types: &KnownTypes, parameter: &TypedNumber) -> Option<R
     Some(Reason::Redefined(value))
 }
 
-/// Why the application is wrong, by the tables, and `None` exactly where it is right.
+/// Why the application is wrong, by the tables. It is `None` exactly if it is right.
 fn mistake_of_application(
     alloc: Global,
     types: &KnownTypes,
@@ -70,7 +70,7 @@ fn mistake_of_application(
     Ok(None)
 }
 
-/// Why what is stated is wrong, by the tables, and `None` exactly where it is right.
+/// Why what is stated is wrong, by the tables. It is `None` exactly if it is right.
 pub(crate) fn mistake_of(
     alloc: Global,
     types: &KnownTypes,

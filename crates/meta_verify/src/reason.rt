@@ -3,24 +3,24 @@ ghost use Rattle.meta_verify.specs.Reason.{reason_text};
 
 use std::alloc::AllocError;
 
-/// Why a line is wrong: the first of these that holds (this project's own).
+/// Why a line is wrong: the first of these that holds.
 #[derive(Clone, Copy, Debug, PartialEq, Eq)]
 pub enum Reason {
     /// The line states nothing.
     Bad,
     /// No instruction has the name.
     Unknown,
-    /// The first of the values that isn't defined.
+    /// This value isn't defined. It is the first such value of the line.
     Undefined(u32),
-    /// The first of the defined values that is defined by a line before, or further left in this line.
+    /// This value is defined by a line before, or further left in this line. It is the first such value that the line defines.
     Redefined(u32),
     /// The instruction doesn't accept the types.
     Refused,
 }
 
 impl Reason {
-    /// Adds the reason as it is written: `bad`, `unknown`, `undefined v9`, `redefined v0` or `refused`. Of what stands in the text
-    /// after an error nothing is said, as `write!` says nothing of it.
+    /// Adds the reason as it is written: `bad`, `unknown`, `undefined v9`, `redefined v0` or `refused`. After an error the contract says
+    /// nothing of the text, as that of `write!` doesn't.
     pub fn push(self, out: &mut String) -> Result<(), AllocError>
         ensures { OnOk result (string_bytes out.new ≡ string_bytes out.old ++ reason_text self) }
     {

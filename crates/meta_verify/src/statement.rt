@@ -10,7 +10,7 @@ use meta_types::type_number;
 use meta_words::{Pieces, cut, number_u32, parse_control};
 use std::alloc::{AllocError, Global};
 
-/// A value and its type (this project's own).
+/// A value and its type.
 #[derive(Clone, Copy, Debug, PartialEq, Eq)]
 pub struct TypedNumber {
     /// The number of the value.
@@ -19,22 +19,22 @@ pub struct TypedNumber {
     pub number: u16,
 }
 
-/// An instruction applied to values (this project's own).
+/// An instruction applied to values.
 #[derive(Drop)]
 pub struct Application<'a> {
     /// The name of the instruction, as it stands in the line: any bytes but spaces.
     pub name: &'a [u8],
     /// The number of the controlling type, if there is one.
     pub control: Option<u16>,
-    /// That of the second controlling type, if there is one.
+    /// The number of the second controlling type, if there is one.
     pub second: Option<u16>,
-    /// What it defines.
+    /// The values that it defines.
     pub results: Vec<TypedNumber>,
     /// The numbers of the values that it is applied to.
     pub values: Vec<u32>,
 }
 
-/// What a line states (this project's own).
+/// What a line states.
 #[derive(Drop)]
 pub enum Statement<'a> {
     /// A parameter of the list: `param V T`.
@@ -75,7 +75,7 @@ fn is_dash(word: &[u8]) -> bool
     matches!(word, b"-")
 }
 
-/// Reads the values that the word lists, in place of what was there. It is false where it is no list of values.
+/// Reads the values that the word lists, in place of what the list had. The answer is false if the word is no list of values.
 fn read_values(values: &mut Vec<u32>, word: &[u8]) -> Result<bool, AllocError>
     ensures known { All IsValue values.new.items }
     ensures found { IfOk result (λ read. read ≡ true → list_text (map value_text values.new.items) ≡ word.now) }
@@ -94,7 +94,7 @@ fn read_values(values: &mut Vec<u32>, word: &[u8]) -> Result<bool, AllocError>
     Ok(true)
 }
 
-/// Reads the values with their types that the word lists, in place of what was there. It is false where it is no such list.
+/// Reads the values with their types that the word lists, in place of what the list had. The answer is false if the word is no such list.
 fn read_results(results: &mut Vec<TypedNumber>, word: &[u8]) -> Result<bool, AllocError>
     ensures known { All IsTypedNumber results.new.items }
     ensures found { IfOk result (λ read. read ≡ true → list_text (map typed_text (map typed_value_of results.new.items)) ≡ word.now) }
@@ -120,14 +120,14 @@ fn begins_with_p(line: &[u8]) -> bool
     matches!(line, [b'p', ..])
 }
 
-/// The words behind `param` in a line of three words. The last may have no bytes.
+/// The words after `param` in a line of three words. The last may have no bytes.
 #[derive(Clone, Copy)]
 struct ParameterWords<'a> {
     value: &'a [u8],
     name: &'a [u8],
 }
 
-/// The words of the line, where it is `param` and two more words.
+/// The words of the line, if it is `param` and two more words.
 fn parameter_words(line: &[u8]) -> Option<ParameterWords<'_>>
     ensures words { IfSome result (λ w. pieces_of 32 line.now ≡ codes "param" ∷ w.value.now ∷ w.name.now ∷ []) }
     ensures none { IfNone result ((value name : List ℕ) → pieces_of 32 line.now ≢ codes "param" ∷ value ∷ name ∷ []) }
@@ -148,7 +148,6 @@ fn parameter_words(line: &[u8]) -> Option<ParameterWords<'_>>
     Some(ParameterWords { value, name })
 }
 
-/// The parameter that the line states.
 fn parse_parameter(line: &[u8]) -> Option<TypedNumber>
     ensures found { IfSome result (λ r. IsStatement line.now (spec.OfParameter (typed_value_of r))) }
     ensures known { IfSome result IsTypedNumber }
@@ -160,14 +159,13 @@ fn parse_parameter(line: &[u8]) -> Option<TypedNumber>
     Some(TypedNumber { value, number })
 }
 
-/// Whether the word is `line`.
 fn is_line(word: &[u8]) -> bool
     ensures { IsTrue result ↔ (word.now ≡ codes "line") }
 {
     matches!(word, b"line")
 }
 
-/// The words behind `line` in a line of five words.
+/// The words after `line` in a line of five words.
 #[derive(Clone, Copy)]
 struct ApplicationWords<'a> {
     name: &'a [u8],
@@ -176,7 +174,7 @@ struct ApplicationWords<'a> {
     values: &'a [u8],
 }
 
-/// The words of the line, where it is `line` and four more words. The last three may have no bytes.
+/// The words of the line, if it is `line` and four more words. The last three may have no bytes.
 fn application_words(line: &[u8]) -> Option<ApplicationWords<'_>>
     ensures words { IfSome result (λ w.
         pieces_of 32 line.now ≡ codes "line" ∷ w.name.now ∷ w.control.now ∷ w.results.now ∷ w.values.now ∷ []) }
@@ -207,7 +205,7 @@ fn application_words(line: &[u8]) -> Option<ApplicationWords<'_>>
 }
 
 impl<'a> Application<'a> {
-    /// The application that the line states, in these lists.
+    /// The application that the line states, read into these lists.
     fn parse_in(lists: &mut Lists, line: &'a [u8]) -> Result<Option<Application<'a>>, AllocError>
         ensures found { IfOk result (λ o. IfSome o (λ a. IsStatement line.now (stated (Statement.Applied a)))) }
         ensures known { IfOk result (λ o. IfSome o (λ a. HasTypeNumbers (Statement.Applied a))) }
@@ -238,7 +236,7 @@ impl<'a> Application<'a> {
 }
 
 impl<'a> Statement<'a> {
-    /// What the line states, and `None` exactly where it states nothing.
+    /// What the line states. It is `None` exactly if the line states nothing.
     pub fn parse(alloc: Global, line: &'a [u8]) -> Result<Option<Statement<'a>>, AllocError>
         ensures found { IfOk result (λ o. IfSome o (λ s. IsStatement line.now (stated s))) }
         ensures known { IfOk result (λ o. IfSome o HasTypeNumbers) }
@@ -248,7 +246,7 @@ impl<'a> Statement<'a> {
         Statement::parse_in(&mut lists, line)
     }
 
-    /// The same, in these lists.
+    /// The same, read into these lists.
     pub(crate) fn parse_in(
         lists: &mut Lists,
         line: &'a [u8],

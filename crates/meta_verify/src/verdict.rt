@@ -10,7 +10,7 @@ use meta_run::Answer;
 use meta_words::Lines;
 use std::alloc::{AllocError, Global};
 
-/// The text that says which line is the first wrong one, by its number, and why.
+/// The text that says which line is the first wrong one, by its number, from 1, and why.
 pub fn wrong_line(alloc: Global, number: usize, reason: Reason) -> Result<String, AllocError>
     ensures { IfOk result (λ text. string_bytes text ≡ wrong_text number reason) }
 {

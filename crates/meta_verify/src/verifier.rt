@@ -10,7 +10,7 @@ use meta_text::{Sink, Source};
 use meta_types::Text;
 use std::alloc::{AllocError, Global};
 
-/// Answers an input by what is said of its lines, as `verify` does (this project's own).
+/// The answerer of `verify`: it answers an input by what is said of its lines.
 #[derive(Clone, Copy)]
 pub struct Verifier;
 
@@ -34,7 +34,7 @@ impl Answerer for Verifier {
     }
 }
 
-/// Checks the lines of the input, where there are no words.
+/// Checks the lines of the input, if there are no words.
 fn check<S: Source, K: Sink>(
     alloc: Global,
     words: &[Text],
@@ -51,11 +51,11 @@ fn check<S: Source, K: Sink>(
     run_answerer(alloc, &Verifier, declarations, source, sink)
 }
 
-/// Checks a list of lines over declarations (this project's own): the sink takes `ok` where each line is right, or empty, and else
-/// `line N: REASON` of the first wrong one, whose number N counts from 1. There are no words.
+/// Checks a list of lines over declarations. The sink takes `ok` if each line is right, or empty. Otherwise it takes `line N: REASON` for
+/// the first wrong line, whose number N counts from 1. There must be no words.
 ///
-/// The order is: the words; the declarations, which are refused by the first fault that they show; the whole input; what is said of it,
-/// in memory; the writes. The ending says how it went, and `OutOfMemory` may come in any case but `Usage`.
+/// The order is: the words; the declarations, which are refused by their first fault if they have one; the whole input; what is said of it,
+/// in memory; the writes. The answer says how the run ended, and `OutOfMemory` may come in any case but `Usage`.
 pub fn verify<S: Source, K: Sink>(
     alloc: Global,
     words: &[Text],
@@ -63,11 +63,11 @@ pub fn verify<S: Source, K: Sink>(
     source: &mut S,
     sink: &mut K,
 ) -> Ending
-    // Over valid declarations `ok` is said exactly where no line is wrong, and else which is the first wrong one, and why.
+    // Over valid declarations, `ok` is said exactly if no line is wrong, and otherwise which is the first wrong one, and why.
     ensures headline { ChecksLines S.left S.faults K.taken K.faults declarations.now source.old source.new sink.old
         sink.new words.now result }
 
-    // What was read and written, by how it ended, and what is done where nothing fails: each field is a fact of the call.
+    // What was read and written, by how the run ended, and what is done where nothing fails. Each field is a fact of the call.
     ensures runs { RunsWordless S.left S.faults K.taken K.faults declarations.now source.old source.new sink.old sink.new
         words.now verdicts result }
 {

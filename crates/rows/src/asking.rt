@@ -10,7 +10,7 @@ use std::alloc::{AllocError, Global};
 use std::io::{self, Write};
 use std::{fs, str};
 
-/// What the path of a file is in messages.
+/// The path of a file in messages.
 pub(crate) const PATH: &[u8] = b"FILE";
 
 /// The SHA-256 of bytes, in hexadecimal digits.
@@ -22,7 +22,7 @@ pub(crate) fn sum_of(alloc: Global, bytes: &[u8]) -> Result<String, AllocError> 
     Ok(sum)
 }
 
-/// Whether bytes end with what a file has, and begin with something else.
+/// Whether bytes end with what a file holds, after something else.
 fn ends_so(rt: &HostRuntime, name: &str, bytes: &[u8]) -> bool {
     match fs::read(rt, name) {
         Ok(wanted) => bytes.len() > wanted.len() && bytes.ends_with(&wanted),
@@ -30,7 +30,7 @@ fn ends_so(rt: &HostRuntime, name: &str, bytes: &[u8]) -> bool {
     }
 }
 
-/// What a run told, its status, and what its sink took.
+/// What a run wrote on standard error, its status, and what its sink took.
 #[derive(Drop)]
 pub(crate) struct Ran {
     told: Vec<Bytes>,
@@ -39,7 +39,6 @@ pub(crate) struct Ran {
 }
 
 impl Ran {
-    /// Runs words over a file.
     fn run_file(
         &mut self,
         alloc: Global,
@@ -55,7 +54,6 @@ impl Ran {
         }
     }
 
-    /// Checks a file.
     fn check_file(
         &mut self,
         alloc: Global,
@@ -117,7 +115,7 @@ impl Ran {
         Ok(ran)
     }
 
-    /// What the sink took, where all was done.
+    /// What the sink took, if the run is done.
     pub(crate) fn done(&self) -> Result<&[u8], Trouble> {
         match self.status {
             0 => Ok(self.sink.bytes()),
@@ -125,13 +123,13 @@ impl Ran {
         }
     }
 
-    /// Writes what the sink took, what was told, and the status.
+    /// Writes what the sink took, what the run wrote on standard error, and the status.
     pub(crate) fn write(&self, rt: &HostRuntime) -> io::Result<()> {
         io::writer(rt).write_all(self.sink.bytes())?;
         self.write_ending(rt)
     }
 
-    /// Writes the status, what the sink took, with escapes, and what was told.
+    /// Writes the status, what the sink took, with escapes, and what the run wrote on standard error.
     pub(crate) fn write_line(&self, case: &mut Case<'_>) {
         write_ended(case, self.status, self.sink.bytes());
         for message in &self.told {
@@ -140,7 +138,7 @@ impl Ran {
         }
     }
 
-    /// Writes how what the sink took stands to what a file has, and the rest as `write` does.
+    /// Writes how what the sink took compares with what a file holds, and the rest as `write` does.
     pub(crate) fn write_against(&self, rt: &HostRuntime, name: &str) -> io::Result<()> {
         let bytes = self.sink.bytes();
         match str::from_utf8(bytes) {
@@ -161,7 +159,7 @@ impl Ran {
         self.write_ending(rt)
     }
 
-    /// Writes what was told, and the status.
+    /// Writes what the run wrote on standard error, and the status.
     fn write_ending(&self, rt: &HostRuntime) -> io::Result<()> {
         for message in &self.told {
             io::writer(rt).write_all(message.as_slice())?;
@@ -171,7 +169,7 @@ impl Ran {
     }
 }
 
-/// Writes what the words that are left are asked over, and which of them are asked.
+/// Writes what the words that are left are asked over, and which words are asked.
 pub(crate) fn write_over(alloc: Global, case: &mut Case<'_>) -> Result<(), Trouble> {
     let words = texts_of_words(alloc, case.rest())?;
     let asked = match Over::of(&words) {

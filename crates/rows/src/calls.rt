@@ -51,7 +51,7 @@ fn write_toml(
     Ok(())
 }
 
-/// Writes what a call answered that a line names.
+/// Writes the answer of the call that a line names.
 fn write_call(
     alloc: Global,
     outside: Outside,
@@ -72,7 +72,7 @@ fn write_call(
     Ok(())
 }
 
-/// Writes what the calls answered that the lines name.
+/// Writes the answers of the calls that the lines name.
 fn write_answers(
     alloc: Global,
     outside: Outside,
@@ -87,8 +87,8 @@ fn write_answers(
     Ok(())
 }
 
-/// Writes what the calls answered that the lines of the input name, on the values of a group of the tables, or `None` where there is no
-/// such group. A call is `set NAME VALUE`, `enable NAME`, `get NAME`, `toml`, or `write`, which writes to a sink.
+/// Writes the answers of the calls that the lines of the input name, on the values of a group of the tables, or `None` if there is no such
+/// group. A call is `set NAME VALUE`, `enable NAME`, `get NAME`, `toml`, or `write`, which writes to a sink.
 pub(crate) fn write_calls(
     alloc: Global,
     outside: Outside,
@@ -127,7 +127,7 @@ fn write_fed_line(
     Ok(())
 }
 
-/// Writes the short form of a line after those that the checker was fed, or `none`, and feeds it the line.
+/// Writes the short form of a line after those that the checker was fed, or `none`, and then feeds the line to the checker.
 fn write_short_line(
     alloc: Global,
     tables: &Tables,
@@ -143,7 +143,7 @@ fn write_short_line(
     Ok(())
 }
 
-/// Feeds the lines of the input to a checker: `fed` writes of each why it is wrong, and another word its short form.
+/// Feeds the lines of the input to a checker. `fed` writes why each is wrong, and another word writes its short form.
 pub(crate) fn write_fed(
     alloc: Global,
     tables: &Tables,

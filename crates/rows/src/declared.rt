@@ -13,13 +13,12 @@ use std::alloc::Global;
 /// What words are run over.
 #[derive(Clone, Copy)]
 pub(crate) enum Declared<'d> {
-    /// Declarations that are there.
+    /// Declarations in memory.
     Made(&'d Declarations),
-    /// Those of a file: how it behaves, and its text.
+    /// The declarations of a file: how the file behaves, and its text.
     File(Outside, &'d [u8]),
 }
 
-/// The declarations of a text.
 pub(crate) fn loaded(alloc: Global, text: &[u8]) -> Result<Declarations, Trouble> {
     match load(alloc, PATH, text) {
         Ok(declarations) => Ok(declarations),
@@ -28,7 +27,7 @@ pub(crate) fn loaded(alloc: Global, text: &[u8]) -> Result<Declarations, Trouble
     }
 }
 
-/// What the items of a text declare, which may show a fault.
+/// What the items of a text declare, which may have a fault.
 pub(crate) fn declared_by(alloc: Global, text: &[u8]) -> Result<Declarations, Trouble> {
     let Ok(read) = read_items(alloc, text) else {
         return Err(Trouble::NoCase);
@@ -39,7 +38,6 @@ pub(crate) fn declared_by(alloc: Global, text: &[u8]) -> Result<Declarations, Tr
     }
 }
 
-/// The tables of declarations.
 fn generated(alloc: Global, declarations: &Declarations) -> Result<Tables, Trouble> {
     match generate(alloc, declarations) {
         Ok(tables) => Ok(tables),
@@ -47,7 +45,7 @@ fn generated(alloc: Global, declarations: &Declarations) -> Result<Tables, Troub
     }
 }
 
-/// Writes what the auditor says of the tables of declarations, which it is asked so many times.
+/// Writes what the auditor says of the tables of declarations, which it is asked several times.
 fn write_audited(
     alloc: Global,
     declarations: &Declarations,
@@ -65,7 +63,7 @@ fn write_audited(
     Ok(())
 }
 
-/// Writes how many opcodes the tables of declarations have, which are made so many times.
+/// Writes how many opcodes the tables of declarations have, which are made several times.
 fn write_generated(
     alloc: Global,
     declarations: &Declarations,

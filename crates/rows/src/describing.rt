@@ -8,7 +8,7 @@ use meta_synth::synth;
 use rows_words::{Case, Trouble};
 use std::alloc::{AllocError, Global};
 
-/// What is built of declarations, which there has to be.
+/// What is built of declarations, which must be valid.
 fn built_of(alloc: Global, declarations: &Declarations) -> Result<Built<'_>, Trouble> {
     match build_all(alloc, declarations) {
         Ok(built) => Ok(built),
@@ -24,7 +24,7 @@ fn text_of_items(alloc: Global, built: &Built<'_>) -> Result<Vec<u8>, Trouble> {
     }
 }
 
-/// The text that describes what is built, which is that of the items that do.
+/// The text that describes what is built. It has to be that of the items that describe it.
 fn description(alloc: Global, built: &Built<'_>) -> Result<String, Trouble> {
     let written = text_of_items(alloc, built)?;
     match write_description(alloc, built)? {
@@ -33,17 +33,15 @@ fn description(alloc: Global, built: &Built<'_>) -> Result<String, Trouble> {
     }
 }
 
-/// Whether the tables are those of what is built.
 fn are_tables_of(alloc: Global, tables: &Tables, built: &Built<'_>) -> Result<bool, AllocError> {
     Ok(tables_of(alloc, built)?.same(tables))
 }
 
-/// Whether both have the same tables.
 fn have_same_tables(alloc: Global, one: &Built<'_>, other: &Built<'_>) -> Result<bool, AllocError> {
     are_tables_of(alloc, &tables_of(alloc, one)?, other)
 }
 
-/// Whether both have the same tables, and the text describes the other.
+/// Whether both have the same tables, and the text describes the other one.
 fn are_same(
     alloc: Global,
     built: &Built<'_>,
@@ -63,18 +61,18 @@ fn are_described_by(
     are_same(alloc, built, &built_of(alloc, declarations)?, text)
 }
 
-/// Whether the text that describes what is built declares the same, and describes this too.
+/// Whether the text that describes what is built declares the same, and describes that too.
 fn is_described_alike(alloc: Global, built: &Built<'_>) -> Result<bool, Trouble> {
     let text = description(alloc, built)?;
     are_described_by(alloc, &loaded(alloc, text.as_bytes())?, built, &text)
 }
 
-/// Whether the text that describes declarations makes such with the same tables, and describes these too.
+/// Whether the text that describes declarations makes declarations with the same tables, and describes these too.
 fn comes_back(alloc: Global, declarations: &Declarations) -> Result<bool, Trouble> {
     is_described_alike(alloc, &built_of(alloc, declarations)?)
 }
 
-/// Writes whether what describes the declarations of the text makes the same ones, and is described by itself.
+/// Writes whether the description of the declarations of the text makes the same ones, and describes these too.
 pub(crate) fn write_described(
     alloc: Global,
     text: &[u8],
@@ -85,7 +83,6 @@ pub(crate) fn write_described(
     Ok(())
 }
 
-/// Whether the items of a text describe what is built.
 fn do_items_describe(alloc: Global, built: &Built<'_>, text: &[u8]) -> Result<bool, Trouble> {
     match read_items(alloc, text) {
         Ok(read) => Ok(is_described(alloc, built, &read.items)?),
@@ -108,7 +105,7 @@ fn write_both(
     Ok(())
 }
 
-/// The same of declarations.
+/// Writes the same for declarations, which must be valid.
 fn write_of(
     alloc: Global,
     declarations: &Declarations,
@@ -128,12 +125,12 @@ pub(crate) fn write_describes(
     write_of(alloc, &loaded(alloc, file)?, text, case)
 }
 
-/// Whether those that are made from a number are described so.
+/// Whether the description of the declarations that are made from a number comes back in this way.
 fn is_synth_described(alloc: Global, number: u32) -> Result<bool, Trouble> {
     comes_back(alloc, &synth(alloc, number)?)
 }
 
-/// Writes how many of the declarations that are made from the numbers below the next one are described so.
+/// Writes for how many of the numbers below the next one the declarations that are made from them come back in this way.
 pub(crate) fn write_synths(alloc: Global, case: &mut Case<'_>) {
     let count: u32 = case.number();
     let mut described: u32 = 0;

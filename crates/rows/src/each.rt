@@ -1,8 +1,8 @@
 use rows_words::Trouble;
 use std::alloc::{AllocError, Global};
 
-/// Which texts are made of one: its fronts that end with a line, all its fronts, the whole one among them, or it with one byte changed
-/// by these bits.
+/// Which texts are made of one: its fronts that end with a line; all its fronts, with the whole text; or the text with one byte changed by
+/// these bits.
 #[derive(Clone, Copy)]
 pub(crate) enum Each {
     Line,
@@ -10,18 +10,18 @@ pub(crate) enum Each {
     Change(u8),
 }
 
-/// What counts texts.
+/// Something that counts texts.
 pub(crate) trait Counting {
-    /// Counts one more.
+    /// Counts one more text.
     fn count(&mut self, alloc: Global, text: &[u8]) -> Result<(), Trouble>;
 }
 
-/// Whether a line ends here, or nothing stands before.
+/// Whether a line ends here, or the front is empty.
 fn ends_line(front: &[u8]) -> bool {
     front.is_empty() || front.ends_with(b"\n")
 }
 
-/// The text, in which the byte between the two parts is another.
+/// The text, in which the byte between the two parts is changed.
 fn changed(alloc: Global, front: &[u8], rest: &[u8], bits: u8) -> Result<Vec<u8>, AllocError> {
     let mut text = front.to_vec(alloc)?;
     if let [byte, after @ ..] = rest {
@@ -31,7 +31,7 @@ fn changed(alloc: Global, front: &[u8], rest: &[u8], bits: u8) -> Result<Vec<u8>
     Ok(text)
 }
 
-/// Counts each such text that is made of one at the places from the first up to the last, which isn't among them.
+/// Counts each such text that is made of one, at the places from the first up to the last, which is left out.
 pub(crate) fn count_each<C: Counting>(
     alloc: Global,
     text: &[u8],

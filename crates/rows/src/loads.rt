@@ -6,8 +6,8 @@ use rows_words::{Case, Trouble, number};
 use std::alloc::{AllocError, Global};
 use std::str;
 
-/// How many texts declare something without a fault, how many are refused with a line that the text has, and how many otherwise; and all
-/// messages, each with a line feed.
+/// How many texts declare something without a fault, how many are refused with a line that the text has, and how many in another way; and
+/// all messages, each with a line feed.
 #[derive(Drop)]
 struct Loads {
     declared: u32,
@@ -16,7 +16,7 @@ struct Loads {
     messages: Vec<u8>,
 }
 
-/// How many lines a text has, one at least.
+/// How many lines a text has, at least one.
 fn line_count(text: &[u8]) -> usize {
     let mut count: usize = 1;
     for (place, byte) in text.iter().enumerate() {
@@ -27,7 +27,7 @@ fn line_count(text: &[u8]) -> usize {
     count
 }
 
-/// The line that a message tells, which begins with the path.
+/// The number of the line in a message, which begins with the path.
 fn line_in(message: &[u8]) -> Result<usize, Trouble> {
     let Some(after) = message.strip_prefix(PATH) else {
         return Err(Trouble::NoCase);
@@ -41,7 +41,7 @@ fn line_in(message: &[u8]) -> Result<usize, Trouble> {
     number(line)
 }
 
-/// Whether a message tells a line that the text has.
+/// Whether a message has the number of a line that the text has.
 fn is_within(message: &[u8], text: &[u8]) -> bool {
     match line_in(message) {
         Ok(line) => line > 0 && line <= line_count(text),

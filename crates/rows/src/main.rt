@@ -1,5 +1,5 @@
 //! Answers the rows of files of declarations and of the shared declarations. Lines make the text of a file and an input, and ask what words
-//! do with them; `Session` has their words. A line that begins with `#` goes through unchanged.
+//! do with them; `Session` has their words. A line that begins with `#` is copied.
 #![tactic(auto)]
 
 mod asking;

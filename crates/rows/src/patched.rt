@@ -11,7 +11,7 @@ struct Patching<'t> {
 }
 
 impl<'t> Patching<'t> {
-    /// The next line of the other text, which is passed over.
+    /// The next line of the other text, which is skipped.
     fn next_line(&mut self) -> Result<&'t str, Trouble> {
         let Some(line) = self.lines.get(self.at).copied() else {
             return Err(Trouble::NoCase);
@@ -20,13 +20,12 @@ impl<'t> Patching<'t> {
         Ok(line)
     }
 
-    /// Adds a line.
     fn push(&mut self, line: &str) -> Result<(), Trouble> {
         self.text.extend_from_slice(line.as_bytes())?;
         Ok(self.text.push(b'\n')?)
     }
 
-    /// Adds so many lines, from the next on.
+    /// Adds this count of lines, from the next on.
     fn push_next(&mut self, count: usize) -> Result<(), Trouble> {
         for _ in 0..count {
             let line = self.next_line()?;
@@ -35,7 +34,7 @@ impl<'t> Patching<'t> {
         Ok(())
     }
 
-    /// Adds a line, with other bytes between so many of its first ones and so many of its last ones.
+    /// Adds a line in which other bytes stand between this count of first bytes and this count of last ones.
     fn push_around(
         &mut self,
         line: &[u8],
@@ -51,7 +50,7 @@ impl<'t> Patching<'t> {
         Ok(self.text.push(b'\n')?)
     }
 
-    /// Adds the next line, with other bytes between its first ones and its last ones: `FIRST LAST BYTES`.
+    /// Adds the next line, with other bytes between its first bytes and its last ones: `FIRST LAST BYTES`.
     fn push_changed(&mut self, words: &str) -> Result<(), Trouble> {
         let (first, rest) = words.split_once(' ').unwrap_or((words, ""));
         let (last, bytes) = rest.split_once(' ').unwrap_or((rest, ""));
@@ -60,7 +59,7 @@ impl<'t> Patching<'t> {
         self.push_around(line.as_bytes(), ends, bytes)
     }
 
-    /// Adds lines as they stand: `COUNT` from the next on, or `LINE COUNT` from the line with this number on, counted from 1.
+    /// Adds unchanged lines: `COUNT` from the next on, or `LINE COUNT` from the line with this number on, from 1.
     fn push_lines(&mut self, words: &str) -> Result<(), Trouble> {
         match words.split_once(' ') {
             Some((line, count)) => {
@@ -72,7 +71,7 @@ impl<'t> Patching<'t> {
     }
 
     /// Adds what a line of a patch says: `+LINE` adds this line, `~FIRST LAST BYTES` the next one with other bytes in its middle, and
-    /// numbers add lines as they stand.
+    /// numbers add unchanged lines.
     fn push_patch(&mut self, line: &str) -> Result<(), Trouble> {
         if let Some(added) = line.strip_prefix('+') {
             return self.push(added);

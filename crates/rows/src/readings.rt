@@ -26,8 +26,8 @@ impl Counting for Readings<'_> {
     }
 }
 
-/// Writes what the texts read as that are made of one, as the next words say: `lines`, `fronts` or `changes`, and the places. A change
-/// is one of the last bit.
+/// Reads the texts that are made of one, and writes how many read as what. The next words say which texts: `lines`, `fronts` or `changes`,
+/// and the places. A change is one of the last bit.
 pub(crate) fn write_readings(
     alloc: Global,
     tables: &Tables,

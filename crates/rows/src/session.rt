@@ -11,36 +11,36 @@ use std::alloc::{AllocError, Global};
 use std::fs;
 use std::io::{self, Write};
 
-/// The room of a sink, where a line says nothing of it.
+/// The room of a sink, if no line gives another.
 const ROOM: usize = 1_048_576;
 
-/// What words are asked over, their input, and how the file, the source and the sink behave. `new` forgets it all.
+/// What words are asked over, their input, and how the file, the source and the sink behave. `new` forgets all of it.
 ///
-/// **What they are asked over.** `| LINE` adds a line to the text of the file, `with BYTES` adds bytes, `many COUNT BYTES` does so many
-/// times, with the number of each time for each `%`, and `data NAME` adds what a file has. `shared` has words asked over the shared
-/// declarations, and `clear file` over the file again, which then has no text.
+/// **What they are asked over.** `| LINE` adds a line to the text of the file, `with BYTES` adds bytes, `many COUNT BYTES` adds them COUNT
+/// times, with the number of each time for each `%`, and `data NAME` adds what a file holds. After `shared`, words are asked over the
+/// shared declarations. After `clear file`, they are asked over the file again, whose text is then empty.
 ///
 /// **The input.** `> LINE`, `add BYTES`, `times COUNT BYTES` and `input NAME` add to it in the same ways, and `numbers COUNT FIRST STEP
-/// BYTES` does with other numbers for each `%`. `begin WORDS` has it begin anew with what the words write, `clear input` with nothing. The
-/// lines of `Edited`, which are `drop`, `cut`, `replace` and `all`, edit it, and `patch NAME` makes another of its lines.
+/// BYTES` does with other numbers for each `%`. `begin WORDS` replaces the input by what the words write, and `clear input` by nothing. The
+/// lines of `Edited`, which are `drop`, `cut`, `replace` and `all`, edit it, and `patch NAME` makes another input of its lines.
 ///
 /// **Outside.** `file STEP FAIL`, `source STEP FAIL` and `sink ROOM STEP FAIL` say how these behave.
 ///
-/// **What is asked.** `WORDS`, or `WORDS < BYTES` with bytes after the input, tells in one line how a run of the words ends: its status,
-/// what it writes, with escapes, and what it tells on standard error. `run WORDS` writes what the run writes and tells, and then the
-/// status. `sum WORDS` has the SHA-256 of what the run writes in the place of that, and `against NAME WORDS` how that stands to what a
-/// file has. `handed WORDS` hands the words what the file declares, even where that shows a fault, and tells in one line how they end.
-/// `over WORDS` tells what words are asked over, and `digest` the SHA-256 of the input. `unfailing WORDS` tells the status of a run over
-/// the shared declarations whose source and sink never fail.
+/// **What is asked.** `WORDS`, or `WORDS < BYTES` with bytes after the input, writes in one line how a run of the words ends: its status,
+/// what it writes, with escapes, and what it writes on standard error. `run WORDS` writes what the run writes, also on standard error, and
+/// then the status. `sum WORDS` writes the SHA-256 of what the run writes in place of that, and `against NAME WORDS` how that compares with
+/// what a file holds. `handed WORDS` hands what the file declares to the words, even if it has a fault, and writes in one line how they
+/// end. `over WORDS` writes what words are asked over, and `digest` the SHA-256 of the input. `unfailing WORDS` writes the status of a run
+/// over the shared declarations whose source and sink never fail.
 ///
 /// `fronts` loads each front of the text of the file, and `changes BITS` the text with each byte changed. `described` describes the text,
-/// `describes` tells whether the input does, and `synths COUNT` describes the declarations that are made from numbers.
+/// `describes` writes whether the input does, and `synths COUNT` describes the declarations that are made from numbers.
 ///
 /// `write` writes the input. `reread lines FROM TO`, `reread fronts FROM TO` and `reread changes FROM TO` read the fronts of the input that
-/// end there with a line, all of them, or it with each byte there changed, and tell how many are no tables, other ones, or those that are
-/// declared. `calls GROUP` calls what the lines of the input name on the settings of a group, `fed` feeds them to a checker, and
-/// `shortened` writes their short forms. `audited TIMES` asks the auditor so many times about the tables in memory, and `generated TIMES`
-/// makes these so many times.
+/// end there with a line, all of its fronts there, or the input with each byte there changed. They write how many are no tables, other
+/// tables, or those that are declared. `calls GROUP` makes the calls that the lines of the input name on the settings of a group, `fed`
+/// feeds the lines to a checker, and `shortened` writes their short forms. `audited TIMES` asks the auditor this many times about the
+/// tables in memory, and `generated TIMES` makes the tables this many times.
 #[derive(Drop)]
 pub(crate) struct Session<'d> {
     alloc: Global,
@@ -52,7 +52,6 @@ pub(crate) struct Session<'d> {
     outside: Outside,
 }
 
-/// Adds a line.
 fn add_line(bytes: &mut Vec<u8>, line: &str) -> Result<(), Trouble> {
     bytes.extend_from_slice(line.as_bytes())?;
     Ok(bytes.push(b'\n')?)
@@ -63,7 +62,7 @@ fn add_decoded(bytes: &mut Vec<u8>, alloc: Global, text: &str) -> Result<(), Tro
     Ok(bytes.extend_from_slice(&decoded(alloc, text)?)?)
 }
 
-/// Adds what a file has.
+/// Adds what a file holds.
 fn add_file(bytes: &mut Vec<u8>, rt: &HostRuntime, name: &str) -> io::Result<()> {
     bytes.extend_from_slice(&fs::read(rt, name)?)?;
     Ok(())
@@ -80,7 +79,7 @@ fn add_numbered(bytes: &mut Vec<u8>, pattern: &[u8], number: &str) -> Result<(),
     Ok(())
 }
 
-/// Adds bytes so many times, with a number for each `%`: the first one, and then one that is greater by the step.
+/// Adds bytes several times, with a number for each `%`: the first number, and then each time one that is greater by the step.
 fn add_many(
     bytes: &mut Vec<u8>,
     alloc: Global,
@@ -103,7 +102,7 @@ fn number_before(words: &str) -> Result<(u64, &str), Trouble> {
 }
 
 impl<'d> Session<'d> {
-    /// No text and no input, and nothing fails.
+    /// A session with no text and no input, in which nothing fails.
     pub(crate) fn new(alloc: Global, shared: &'d Declarations) -> Session<'d> {
         Session {
             alloc,
@@ -138,7 +137,7 @@ impl<'d> Session<'d> {
         Ok(())
     }
 
-    /// Adds bytes to the text or the input many times, with numbers from the first on.
+    /// Adds bytes to the text or the input several times, with numbers from the first on.
     fn add_times(&mut self, word: &str, numbers: [u64; 3], bytes: &str) -> Result<(), Trouble> {
         let alloc = self.alloc;
         let pattern = decoded(alloc, bytes)?;
@@ -173,7 +172,6 @@ impl<'d> Session<'d> {
         }
     }
 
-    /// Edits the input.
     fn edit(&mut self, line: &str) -> Result<(), Trouble> {
         let mut edited = Edited::new(self.alloc);
         edited.begin(&self.input)?;
@@ -187,13 +185,13 @@ impl<'d> Session<'d> {
         Ok(self.ran(words, "")?.done()?.to_vec(self.alloc)?)
     }
 
-    /// Has the input begin with what the words write.
+    /// Replaces the input by what the words write.
     fn begin_input(&mut self, words: &str) -> Result<(), Trouble> {
         self.input = self.taken(Case::of(self.alloc, words)?.rest())?;
         Ok(())
     }
 
-    /// Makes the text or the input another, or says how what is outside behaves, and tells whether the line does.
+    /// Changes the text or the input, or how what is outside behaves, if the line says so, and answers whether it does.
     fn make(&mut self, line: &str) -> Result<bool, Trouble> {
         let (word, rest) = line.split_once(' ').unwrap_or((line, ""));
         match word {
@@ -240,7 +238,7 @@ impl<'d> Session<'d> {
         Ok(input)
     }
 
-    /// What the words do over what is declared, with bytes after the input.
+    /// What the words do over these declarations, with bytes after the input.
     fn ran_over(
         &self,
         declared: Declared<'_>,
@@ -252,12 +250,12 @@ impl<'d> Session<'d> {
         Ran::of(self.alloc, &words, declared, self.outside, &input)
     }
 
-    /// The same, over what the lines say.
+    /// The same, over the declarations that the lines give.
     fn ran(&self, words: &[&str], after: &str) -> Result<Ran, Trouble> {
         self.ran_over(self.declared(), words, after)
     }
 
-    /// Writes what the words that are left do over what the file declares, which may show a fault.
+    /// Writes what the words that are left do over what the file declares, which may have a fault.
     fn write_handed(&self, after: &str, case: &mut Case<'_>) -> Result<(), Trouble> {
         let declarations = declared_by(self.alloc, &self.text)?;
         let ran = self.ran_over(Declared::Made(&declarations), case.rest(), after)?;
@@ -265,7 +263,7 @@ impl<'d> Session<'d> {
         Ok(())
     }
 
-    /// Runs the words that are left, and writes what they write, its SHA-256, or how it stands to what a file has.
+    /// Runs the words that are left, and writes what they write, its SHA-256, or how it compares with what a file holds.
     fn write_ran(
         &self,
         rt: &HostRuntime,
@@ -334,7 +332,7 @@ impl<'d> Session<'d> {
         }
     }
 
-    /// Writes the answer to the words of a line, or what stands for it, and a line feed.
+    /// Writes the answer to the words of a line, or the word for its trouble, and a line feed.
     fn write_answer(
         &self,
         rt: &HostRuntime,
@@ -350,7 +348,7 @@ impl<'d> Session<'d> {
         io::writer(rt).write_all(answer.as_bytes())
     }
 
-    /// Writes the answer to a line that asks, or adds what a file has.
+    /// Writes the answer to a line that asks, or adds what a file holds.
     fn ask(&mut self, rt: &HostRuntime, after: &str, case: &mut Case<'_>) -> io::Result<()> {
         match case.word() {
             "data" => add_file(&mut self.text, rt, case.word()),
@@ -362,7 +360,7 @@ impl<'d> Session<'d> {
         }
     }
 
-    /// Does what a line says. A comment goes through unchanged, and an empty line says nothing.
+    /// Does what a line says. A comment is copied, and an empty line does nothing.
     pub(crate) fn answer_line(&mut self, rt: &HostRuntime, line: &str) -> io::Result<()> {
         if line.is_empty() {
             return Ok(());

@@ -26,8 +26,8 @@ fn type_of_lane(alloc: Global, lane: LaneType, ending: &str) -> Result<ValueType
     type_of(name.as_str())
 }
 
-/// Writes the types that the function relates to the type. They are the one that it leads to, but for the two relations, which
-/// lead nowhere. By the types and by their numbers it has to do the same.
+/// Writes the types that the function relates to the type. There is one, to which it leads, but for the two relations, which may relate
+/// several and lead nowhere. For types and for their numbers the answers have to agree.
 fn write_related(func: DerivedFunc, from: ValueType, case: &mut Case<'_>) {
     let led_to = func.apply(from);
     let leads = !matches!(func, DerivedFunc::Narrower | DerivedFunc::Wider) || led_to.is_some();

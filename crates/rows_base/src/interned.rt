@@ -26,7 +26,7 @@ fn intern<'n>(names: &'n [&'n str], table: &mut UniqueTable<'n, &'n str>, case: 
     }
 }
 
-/// So many different numbers: an odd factor takes different numbers to different ones.
+/// `count` different numbers. An odd factor makes different numbers of different ones.
 fn scattered(alloc: Global, count: u32) -> Result<Vec<u32>, AllocError> {
     let mut numbers = Vec::new(alloc);
     for number in 0..count {
@@ -48,7 +48,7 @@ fn intern_in_order<'n>(
     Ok(table.len())
 }
 
-/// Writes how many entries there are after so many different numbers were added, and after they were added again.
+/// Writes how many entries there are after `COUNT` different numbers were added, and after they were added again.
 pub(crate) fn write_interned_twice(alloc: Global, case: &mut Case<'_>) -> Result<(), Trouble> {
     let numbers = scattered(alloc, case.number())?;
     let mut table = UniqueTable::new(alloc);

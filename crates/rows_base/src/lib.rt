@@ -1,4 +1,4 @@
-//! Answers lines of value types, derived functions, names and texts, and of hashes, slots, lookups, interning and overlapping lists.
+//! Answers lines on value types, derived functions, names and texts, and on hashes, slots, lookups, interning and overlapping lists.
 #![tactic(auto)]
 
 mod functions;

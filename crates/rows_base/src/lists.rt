@@ -3,7 +3,7 @@ use meta_unique::UniqueSeqTable;
 use rows_words::{Case, Trouble, number, numbers_of};
 use std::alloc::Global;
 
-/// What is neither a number nor a text.
+/// An element that is neither a number nor a text.
 #[derive(Clone, PartialEq, Eq, Drop)]
 struct Element {
     /// The number that it stands for.

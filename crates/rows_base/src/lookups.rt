@@ -9,7 +9,7 @@ use std::cell::Cell;
 use std::marker::Brand;
 use std::sync::ledger::{Blank, Ledger};
 
-/// The slots of a list, in which what is no number, as `-`, is a vacant one.
+/// The slots of a list. A word that is no number, such as `-`, is a vacant slot.
 fn listed(alloc: Global, list: &str) -> Result<Vec<Option<u16>>, AllocError> {
     let mut slots = Vec::new(alloc);
     if !list.is_empty() {
@@ -20,7 +20,7 @@ fn listed(alloc: Global, list: &str) -> Result<Vec<Option<u16>>, AllocError> {
     Ok(slots)
 }
 
-/// Writes what is found in slots of the number wanted from a start on. A word that is no number, as `any`, is every number.
+/// Writes what is found in slots for a wanted number, from a start on. A wanted word that is no number, such as `any`, fits every number.
 pub(crate) fn write_probed(alloc: Global, case: &mut Case<'_>) -> Result<(), Trouble> {
     let slots = listed(alloc, case.word())?;
     let (start, wanted) = (case.number(), case.word().parse::<u16>().ok());
@@ -63,7 +63,7 @@ fn find_each(
     Ok(())
 }
 
-/// Writes how many slots so many items have that all have the hash 0, and how many items are looked at until each is found.
+/// Writes how many slots `COUNT` items have that all have the hash 0, and how many items are looked at until each is found.
 pub(crate) fn write_colliding(alloc: Global, case: &mut Case<'_>) -> Result<(), Trouble> {
     let count = case.number();
     let slots = slots_of_count(alloc, count, 0)?;

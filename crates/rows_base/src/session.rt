@@ -21,7 +21,7 @@ impl<'l> Session<'l> {
         }
     }
 
-    /// Writes the answer to what is asked of types and their derived functions. All words but these are the names of functions.
+    /// Writes the answer to a question on types and their derived functions. A word that isn't listed is the name of a function.
     fn answer_on_types(
         &self,
         asked: &str,
@@ -48,7 +48,7 @@ impl<'l> Session<'l> {
         }
     }
 
-    /// Writes the answer to what is asked of tables, or of types.
+    /// Writes the answer to a question on tables, or on types.
     fn answer_on_tables(
         &self,
         asked: &str,
@@ -71,7 +71,7 @@ impl<'l> Session<'l> {
         }
     }
 
-    /// Writes the answer to what is asked, about which the words are.
+    /// Writes the answer to a question with these words.
     fn answer(&mut self, asked: &str, words: &str, case: &mut Case<'l>) -> Result<(), Trouble> {
         match asked {
             "new" => self.lists.begin(self.alloc, case),

@@ -2,7 +2,7 @@ use meta_unique::{generate_table, simple_hash};
 use rows_words::{Case, Trouble, numbers_of};
 use std::alloc::{AllocError, Global};
 
-/// The items of a list, which are parted by commas.
+/// The items of a list, which are separated by commas.
 pub(crate) fn items_of<'t>(alloc: Global, list: &'t str) -> Result<Vec<&'t str>, AllocError> {
     if list.is_empty() {
         return Ok(Vec::new(alloc));
@@ -37,7 +37,6 @@ fn slots_of(alloc: Global, hashes: &[usize]) -> Result<Vec<Option<u16>>, Trouble
     Ok(copied(alloc, &slots)?)
 }
 
-/// The slots of names.
 pub(crate) fn slots_of_names(alloc: Global, names: &[&str]) -> Result<Vec<Option<u16>>, Trouble> {
     let mut hashes = Vec::new(alloc);
     for name in names {
@@ -46,7 +45,7 @@ pub(crate) fn slots_of_names(alloc: Global, names: &[&str]) -> Result<Vec<Option
     slots_of(alloc, &hashes)
 }
 
-/// The slots of so many items, whose hashes are the multiples of a number.
+/// The slots of `count` items, whose hashes are the multiples of a number.
 pub(crate) fn slots_of_count(
     alloc: Global,
     count: u16,
@@ -78,7 +77,7 @@ pub(crate) fn write_slots(
     Ok(())
 }
 
-/// Writes how many slots there are for so many items.
+/// Writes how many slots there are for this count of items.
 pub(crate) fn write_size(alloc: Global, case: &mut Case<'_>) -> Result<(), Trouble> {
     let slots = slots_of_count(alloc, case.number(), 1)?;
     case.shown(&slots.len());

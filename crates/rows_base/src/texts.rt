@@ -3,7 +3,6 @@ use rows_words::{Case, Trouble, hash_of, pair_of, texts_of};
 use std::alloc::{AllocError, Global};
 use std::cmp::Ordering;
 
-/// Writes the camel case of a name.
 pub(crate) fn write_camel_case(
     alloc: Global,
     name: &str,
@@ -14,14 +13,13 @@ pub(crate) fn write_camel_case(
     Ok(())
 }
 
-/// Writes whether a text is a name.
 pub(crate) fn write_is_name(alloc: Global, text: &str, case: &mut Case<'_>) -> Result<(), Trouble> {
     let text = Text::new(alloc, text)?;
     case.yes_or_no(is_name(&text));
     Ok(())
 }
 
-/// Writes for each name of a list the place of the earlier name that it shares one with.
+/// Writes, for each name of a list, the place of the first earlier name that is the same or has the same camel case, or `-`.
 pub(crate) fn write_earlier(alloc: Global, case: &mut Case<'_>) -> Result<(), Trouble> {
     let texts = texts_of(alloc, case.word(), "")?;
     let mut names = EarlierNames::new(alloc);
@@ -35,8 +33,8 @@ pub(crate) fn write_earlier(alloc: Global, case: &mut Case<'_>) -> Result<(), Tr
     Ok(())
 }
 
-/// Writes what is said of two texts: a copy of the first, whether it equals the first, how the two are ordered, whether they are
-/// equal, whether the first has the hash of its `str`, and whether the two have one hash.
+/// Compares two texts. Writes a copy of the first, whether it equals the first, how the two are ordered, whether they are equal, whether
+/// the first has the hash of its `str`, and whether the two have one hash.
 pub(crate) fn write_pair(alloc: Global, pair: &str, case: &mut Case<'_>) -> Result<(), Trouble> {
     let (text, other) = pair_of(pair, ',')?;
     let text = Text::new(alloc, text)?;

@@ -6,7 +6,7 @@ use rows_words::{Case, Trouble, decoded, type_of};
 use std::alloc::{AllocError, Global};
 use std::fmt::Display;
 
-/// Begins a row: a value, and numbers behind it.
+/// Begins a row: a value, and numbers after it.
 fn begin_row<T: Display>(value: &T, numbers: &[u64], case: &mut Case<'_>) {
     case.shown(value);
     for number in numbers {
@@ -14,14 +14,13 @@ fn begin_row<T: Display>(value: &T, numbers: &[u64], case: &mut Case<'_>) {
     }
 }
 
-/// Adds a text to a row.
 fn add_to_row(text: Result<Text, AllocError>, case: &mut Case<'_>) {
     case.letter('|');
     case.made(text);
 }
 
-/// Writes all that is said of the type of a name, which may have escapes: its own name, number, lane bits, lane count, width, bytes in
-/// memory, name in Rust source and documentation.
+/// Writes all facts of the type of a name, which may have escapes: its own name, number, lane bits, lane count, width, bytes in memory,
+/// name in Rust source and documentation.
 pub(crate) fn write_type(alloc: Global, case: &mut Case<'_>) -> Result<(), Trouble> {
     let name = decoded(alloc, case.word())?;
     let Some(t) = ValueType::parse(&name) else {
@@ -54,7 +53,7 @@ pub(crate) fn write_number(case: &mut Case<'_>) -> Result<(), Trouble> {
     Ok(())
 }
 
-/// Writes how many of all numbers are numbers of types.
+/// Writes how many numbers are numbers of types.
 pub(crate) fn write_numbers(case: &mut Case<'_>) -> Result<(), Trouble> {
     let mut count = 0u32;
     for number in 0..=u16::MAX {
@@ -66,7 +65,7 @@ pub(crate) fn write_numbers(case: &mut Case<'_>) -> Result<(), Trouble> {
     Ok(())
 }
 
-/// Writes the text of a type for a programmer.
+/// Writes a type as `Debug` shows it.
 pub(crate) fn write_debug(case: &mut Case<'_>) -> Result<(), Trouble> {
     match type_of(case.word())? {
         ValueType::Lane(lane) => case.debugged(&lane),
@@ -84,14 +83,14 @@ fn lane_of(case: &mut Case<'_>) -> Result<LaneType, Trouble> {
     }
 }
 
-/// Writes what is said of a lane: name, number, lane bits and documentation.
+/// Writes the facts of a lane: name, number, lane bits and documentation.
 fn write_lane(alloc: Global, lane: LaneType, case: &mut Case<'_>) {
     let numbers = [lane.number().into(), lane.lane_bits()];
     begin_row(&lane, &numbers, case);
     add_to_row(lane.doc(alloc), case);
 }
 
-/// Writes what is said of the lane of so many bits, an `int` or a `float`.
+/// Writes the facts of the lane of this many bits, an `int` or a `float`.
 pub(crate) fn write_scalar(alloc: Global, sort: &str, case: &mut Case<'_>) -> Result<(), Trouble> {
     let bits = case.number();
     let lane = match sort {
@@ -106,8 +105,8 @@ pub(crate) fn write_scalar(alloc: Global, sort: &str, case: &mut Case<'_>) -> Re
     Ok(())
 }
 
-/// Writes what is said of so many lanes of a type: of one lane what is said of the lane itself, and else of the vector its name, number,
-/// lane bits, lane count, lane and documentation.
+/// Writes the facts of a type with this count of lanes. For one lane they are those of the lane itself, and else the name of the vector,
+/// its number, lane bits, lane count, lane and documentation.
 pub(crate) fn write_by(alloc: Global, case: &mut Case<'_>) -> Result<(), Trouble> {
     let (lane, lanes) = (lane_of(case)?, case.number::<u16>());
     if lanes == 1 {
@@ -136,7 +135,7 @@ pub(crate) fn write_by(alloc: Global, case: &mut Case<'_>) -> Result<(), Trouble
     Ok(())
 }
 
-/// Writes what is said of the dynamic vector of at least so many lanes of a type: name, number, lane bits, least lane count, lane and
+/// Writes the facts of the dynamic vector of at least this count of lanes of a type: name, number, lane bits, least lane count, lane and
 /// documentation.
 pub(crate) fn write_dynamic(alloc: Global, case: &mut Case<'_>) -> Result<(), Trouble> {
     let (lane, lanes) = (lane_of(case)?, case.number::<u16>());
@@ -155,7 +154,7 @@ pub(crate) fn write_dynamic(alloc: Global, case: &mut Case<'_>) -> Result<(), Tr
     Ok(())
 }
 
-/// Writes a lane that an iterator gave, or that it gives no more.
+/// Writes a lane that an iterator gave, or that it gave none.
 fn write_given(lane: Option<LaneType>, case: &mut Case<'_>) {
     match lane {
         Some(lane) => {
@@ -166,7 +165,7 @@ fn write_given(lane: Option<LaneType>, case: &mut Case<'_>) {
     }
 }
 
-/// Writes the lanes that the iterator gives, and what it gives then.
+/// Writes the lanes that the iterator gives, and what it gives after them.
 pub(crate) fn write_lanes(mut lanes: LaneTypeIterator, case: &mut Case<'_>) -> Result<(), Trouble> {
     for _ in 0..10 {
         write_given(lanes.next(), case);
@@ -174,7 +173,7 @@ pub(crate) fn write_lanes(mut lanes: LaneTypeIterator, case: &mut Case<'_>) -> R
     Ok(())
 }
 
-/// Writes the integers that their iterator gives, and what it gives then.
+/// Writes the integers that their iterator gives, and what it gives after them.
 pub(crate) fn write_ints(case: &mut Case<'_>) -> Result<(), Trouble> {
     let mut ints = IntIterator::new();
     for _ in 0..6 {
@@ -183,7 +182,7 @@ pub(crate) fn write_ints(case: &mut Case<'_>) -> Result<(), Trouble> {
     Ok(())
 }
 
-/// Writes the floats that their iterator gives, and what it gives then.
+/// Writes the floats that their iterator gives, and what it gives after them.
 pub(crate) fn write_floats(case: &mut Case<'_>) -> Result<(), Trouble> {
     let mut floats = FloatIterator::new();
     for _ in 0..5 {
@@ -192,7 +191,7 @@ pub(crate) fn write_floats(case: &mut Case<'_>) -> Result<(), Trouble> {
     Ok(())
 }
 
-/// Writes whether a vector may have so many lanes.
+/// Writes whether a vector may have this count of lanes.
 pub(crate) fn write_is_lane_count(case: &mut Case<'_>) -> Result<(), Trouble> {
     let lanes = case.number();
     case.yes_or_no(is_lane_count(lanes));

@@ -1,4 +1,4 @@
-//! Answers rows that only calls of a library can show. A line `%% SUBJECT` begins the lines of a subject, and goes through unchanged.
+//! Answers rows that only calls of a library can show. A line `%% SUBJECT` begins the lines of a subject, and is copied.
 #![tactic(auto)]
 
 use rows_insts::Subject;

@@ -5,7 +5,7 @@ use rows_words::{Case, Trouble, hash_of, number, texts_of};
 use std::alloc::Global;
 use std::hash::Hash;
 
-/// Writes the pairs of numbers of what is equal and hashes alike.
+/// Writes the pairs of numbers of elements that are equal and hash alike.
 fn write_pairs<T: PartialEq + Hash>(one: &[T], two: &[T], case: &mut Case<'_>) {
     for (j, a) in one.iter().enumerate() {
         for (k, b) in two.iter().enumerate() {
@@ -25,7 +25,7 @@ pub(crate) fn write_alike(one: &SettingGroup, two: &SettingGroup, case: &mut Cas
     write_pairs(one.presets(), two.presets(), case);
 }
 
-/// Writes the names of the group's settings that are as this.
+/// Writes the names of the group's settings that are equal to this.
 fn write_those(group: &SettingGroup, made: &SpecificSetting, case: &mut Case<'_>) {
     for setting in group.settings() {
         if *setting.specific() == *made {
@@ -36,7 +36,7 @@ fn write_those(group: &SettingGroup, made: &SpecificSetting, case: &mut Case<'_>
     case.letter('.');
 }
 
-/// Writes the names of the group's settings that are as what is made by oneself: `num DEFAULT`, or an enum with a copy of its values.
+/// Writes the names of the group's settings that are equal to one that the line makes: `num DEFAULT`, or an enum with a copy of its values.
 pub(crate) fn write_which(
     alloc: Global,
     group: &SettingGroup,
@@ -53,7 +53,7 @@ pub(crate) fn write_which(
     Ok(())
 }
 
-/// Writes whether two sets are equal, and their masks; of equal ones whether they hash equally.
+/// Writes whether two sets are equal, and their masks; if they are equal, also whether they hash equally.
 fn write_equal(set: &TypeSet, other: &TypeSet, case: &mut Case<'_>) {
     let is_equal = *set == *other;
     case.field("sets ", &is_equal);
@@ -63,7 +63,7 @@ fn write_equal(set: &TypeSet, other: &TypeSet, case: &mut Case<'_>) {
     }
 }
 
-/// `equal_sets SET | SET`: whether two sets are equal, and their masks; of equal ones whether they hash equally.
+/// `equal_sets SET | SET`: whether two sets are equal, and their masks; if they are equal, also whether they hash equally.
 pub(crate) fn equal_sets(alloc: Global, case: &mut Case<'_>) -> Result<(), Trouble> {
     let set = set_of(alloc, case.rest())?;
     let words: Vec<&str> = case.doc().split(' ').collect(alloc)?;

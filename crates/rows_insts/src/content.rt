@@ -3,7 +3,7 @@ use crate::words::write_prose;
 use meta_inst::InstructionContent;
 use rows_words::Case;
 
-/// Writes the numbers behind a word, with commas between them, or `-` for none.
+/// Writes the numbers after a word, with commas between them, or `-` if there are none.
 fn write_numbers(case: &mut Case<'_>, word: &str, numbers: &[usize]) {
     case.text(word);
     let start = case.written();
@@ -14,7 +14,7 @@ fn write_numbers(case: &mut Case<'_>, word: &str, numbers: &[usize]) {
     case.end_list(start);
 }
 
-/// Writes the marks that are set, each by its letter, or `-` for none.
+/// Writes the marks that are set, each by its letter, or `-` if none is set.
 fn write_marks(content: &InstructionContent, case: &mut Case<'_>) {
     let marks = [
         ('t', content.is_terminator()),
@@ -36,8 +36,8 @@ fn write_marks(content: &InstructionContent, case: &mut Case<'_>) {
     case.end_list(0);
 }
 
-/// A part of what is known of an instruction. `names`: as it is declared, in camel case and in the code that is written, and its
-/// documentation; `places`: its format's number, how many operands it has, and the places of values, immediates and results; `marks`;
+/// Writes a part of what is known of an instruction. `names`: its name as declared, in camel case and in the code that is written, and its
+/// documentation. `places`: its format's number, how many operands it has, and the places of values, immediates and results. `marks`.
 /// `control`: the variable that controls, and whether it is that of the designated operand, or `none`.
 pub(crate) fn write_part(
     content: &InstructionContent,

@@ -22,7 +22,7 @@ fn write_structure(structure: &FormatStructure, case: &mut Case<'_>) {
     case.end_list(start);
 }
 
-/// Writes how many fields a format has, and all as they are written; and a line for each with its member, the text of the field, and its
+/// Writes how many fields a format has, and all as they are written, and for each a line with its member, the text of the field, and its
 /// kind.
 fn write_fields(format: &InstructionFormat, variables: &Variables<'_>, case: &mut Case<'_>) {
     let fields = &format.imm_fields;
@@ -49,7 +49,7 @@ pub(crate) struct Formats<'l> {
 }
 
 impl<'l> Formats<'l> {
-    /// No format.
+    /// An empty table.
     pub(crate) fn new(alloc: Global) -> Formats<'l> {
         Formats {
             alloc,
@@ -59,13 +59,12 @@ impl<'l> Formats<'l> {
         }
     }
 
-    /// `formats`: another table without a format, and how many it has.
+    /// `formats`: begins another, empty table, and writes how many formats it has.
     pub(crate) fn begin(&mut self, case: &mut Case<'_>) {
         self.table = FormatTable::new(self.alloc);
         case.field("formats ", &self.table.len());
     }
 
-    /// Adds a format to the table.
     fn add(
         &mut self,
         name: &'l str,
@@ -101,12 +100,12 @@ impl<'l> Formats<'l> {
         Ok(())
     }
 
-    /// The number for whose name the next word stands.
+    /// The number of the format that the next word names.
     pub(crate) fn next_id(&self, case: &mut Case<'_>) -> Result<FormatId, Trouble> {
         found(&self.ids, case.word())
     }
 
-    /// The format of this number, where the table has it.
+    /// The format of this number, if the table has it.
     fn format_at(&self, id: FormatId) -> Result<&InstructionFormat, Trouble> {
         if !self.table.is_of(id) {
             return Err(Trouble::NoCase);
@@ -114,7 +113,7 @@ impl<'l> Formats<'l> {
         Ok(self.table.get(id))
     }
 
-    /// The format for whose name the next word stands.
+    /// The format that the next word names.
     fn next(&self, case: &mut Case<'_>) -> Result<&InstructionFormat, Trouble> {
         self.format_at(self.next_id(case)?)
     }

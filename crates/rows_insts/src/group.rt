@@ -3,8 +3,8 @@ use meta_settings::{Preset, Setting, SettingGroup, SpecificSetting};
 use rows_words::{Case, Trouble};
 use std::alloc::Global;
 
-/// Writes a setting: its kind with its default or its values, its byte, of a boolean its bit and its number, and what it gives to its
-/// byte; and behind ` | ` its description and its comment, where either is there.
+/// Writes a setting: its kind with its default or its values, its byte, its bit and its number if it is a boolean, and what it gives to its
+/// byte; and after ` | ` its description and its comment, if either isn't empty.
 pub(crate) fn write_setting(setting: &Setting, case: &mut Case<'_>) {
     case.text(setting.name().as_str());
     match setting.specific() {
@@ -31,7 +31,7 @@ pub(crate) fn write_setting(setting: &Setting, case: &mut Case<'_>) {
     write_prose(case, comment);
 }
 
-/// Writes the group's sizes and its default bytes: in each byte what its settings give to it.
+/// Writes the group's name, its sizes and its default bytes. Each byte is what the settings of that byte give to it.
 pub(crate) fn write_bytes(
     alloc: Global,
     group: &SettingGroup,
@@ -52,7 +52,7 @@ pub(crate) fn write_bytes(
     Ok(())
 }
 
-/// Writes the group's presets in their order, a line each: the booleans that it turns on, for each byte the mask and the value, and its
+/// Writes the group's presets in order, a line each: the booleans that it turns on, for each byte the mask and the value, and its
 /// description.
 pub(crate) fn write_presets(
     alloc: Global,
@@ -78,7 +78,6 @@ pub(crate) fn write_presets(
     Ok(())
 }
 
-/// The preset of this name.
 pub(crate) fn preset_of<'g>(group: &'g SettingGroup, name: &str) -> Result<&'g Preset, Trouble> {
     for preset in group.presets() {
         if preset.name().as_str() == name {

@@ -23,7 +23,7 @@ fn add_bool(
     Ok(group.add_bool(name, description, comment, default)?)
 }
 
-/// Adds a number.
+/// Adds a number to a group.
 fn add_num(
     alloc: Global,
     group: &mut SettingGroupBuilder,
@@ -37,7 +37,7 @@ fn add_num(
     Ok(group.add_num(name, description, comment, default)?)
 }
 
-/// Adds an enum of these values, which are parted by commas.
+/// Adds an enum of these values, which are separated by commas, to a group.
 fn add_enum(
     alloc: Global,
     group: &mut SettingGroupBuilder,
@@ -52,7 +52,7 @@ fn add_enum(
     Ok(group.add_enum(name, description, comment, values)?)
 }
 
-/// Adds a preset of what is named, which has no comment.
+/// Adds a preset of these entries, without a comment, to a group.
 fn add_preset(
     alloc: Global,
     group: &mut SettingGroupBuilder,
@@ -79,7 +79,7 @@ fn add_nameless(
     }
 }
 
-/// What a word such as `boolean:3` or `preset:1` means: an index of another group, behind so many others.
+/// What a word such as `boolean:3` or `preset:1` means: an index of another group, after `count` others.
 fn of_other_group(alloc: Global, word: &str, count: u16) -> Result<PresetType, Trouble> {
     let mut other = SettingGroupBuilder::new(alloc, Text::new(alloc, "other")?);
     for _ in 0..count {
@@ -122,7 +122,7 @@ pub(crate) struct Groups<'l> {
 }
 
 impl<'l> Groups<'l> {
-    /// Nothing is declared, and nothing built.
+    /// Groups of which none is declared or built.
     pub(crate) fn new(alloc: Global) -> Result<Groups<'l>, AllocError> {
         let name = Text::new(alloc, "")?;
         Ok(Groups {
@@ -141,7 +141,7 @@ impl<'l> Groups<'l> {
         }
     }
 
-    /// What the names mean, which are parted by commas, none for an empty list.
+    /// What the names mean, which are separated by commas. An empty list has no names.
     fn meant(&self, names: &str) -> Result<Vec<PresetType>, Trouble> {
         let mut args = Vec::new(self.alloc);
         if !names.is_empty() {
@@ -185,7 +185,7 @@ impl<'l> Groups<'l> {
         }
     }
 
-    /// `many num COUNT`: declares so many numbers `n0`, `n1` and so on.
+    /// `many num COUNT`: declares COUNT numbers, `n0`, `n1` and so on.
     fn declare_numbers(&mut self, case: &mut Case<'l>) -> Result<(), Trouble> {
         if !case.takes("num") {
             return Err(Trouble::BadLine);
@@ -222,7 +222,7 @@ impl<'l> Groups<'l> {
         Ok(())
     }
 
-    /// The group as it is built once more.
+    /// The group, built once more.
     fn built_again(&self) -> Result<SettingGroup, Trouble> {
         match self.group.build(self.alloc, 1) {
             Ok(group) => Ok(group),
@@ -230,7 +230,7 @@ impl<'l> Groups<'l> {
         }
     }
 
-    /// `target NAME`: the name of a target, and of its group and the group's size, which is this group.
+    /// `target NAME`: writes the name of a target with this group, the name of its group, and the group's size.
     fn write_target(&self, case: &mut Case<'l>) -> Result<(), Trouble> {
         let group = self.built_again()?;
         let isa = TargetIsa::new(Text::new(self.alloc, case.word())?, group);
@@ -240,7 +240,7 @@ impl<'l> Groups<'l> {
         Ok(())
     }
 
-    /// The built group of the name that is the next word, the last of them.
+    /// The last built group with the name that is the next word.
     fn next_group(&self, case: &mut Case<'l>) -> Result<&SettingGroup, Trouble> {
         let name = case.word();
         for group in self.built.iter().rev() {
@@ -251,7 +251,7 @@ impl<'l> Groups<'l> {
         Err(Trouble::NoCase)
     }
 
-    /// Writes the answer to a line that declares or builds a group, or asks something of what is built.
+    /// Writes the answer to a line that declares or builds a group, or asks something of a built group.
     fn answer(&mut self, word: &'l str, case: &mut Case<'l>) -> Result<(), Trouble> {
         match word {
             "group" => {
@@ -274,7 +274,8 @@ impl<'l> Groups<'l> {
         }
     }
 
-    /// Writes the answer to `layout`, `bytes`, `presets`, `names`, `alike`, `which` or `has`, behind which a built group has its name.
+    /// Writes the answer to `layout`, `bytes`, `presets`, `names`, `alike`, `which` or `has`. After the word comes the name of a built
+    /// group.
     fn answer_on_built(&self, word: &str, case: &mut Case<'l>) -> Result<(), Trouble> {
         let group = self.next_group(case)?;
         match word {
@@ -305,7 +306,6 @@ impl<'l> Groups<'l> {
 }
 
 impl<'l> Answering<'l> for Groups<'l> {
-    /// Adds the answer to a line.
     fn answer_line(&mut self, line: &'l str, answers: &mut String) -> Result<(), AllocError> {
         let mut case = Case::of(self.alloc, line)?;
         let word = case.word();

@@ -13,13 +13,13 @@ use meta_types::Text;
 use rows_words::{Answering, Case, Trouble, number};
 use std::alloc::{AllocError, Global};
 
-/// The names of inputs by their places; `o` from there on.
+/// The names of inputs by their places, and `o` for later places.
 const INPUTS: [&str; 8] = ["x", "y", "z", "u", "v", "w", "s", "t"];
 
-/// The names of outputs by their places; `o` from there on.
+/// The names of outputs by their places, and `o` for later places.
 const OUTPUTS: [&str; 8] = ["a", "b", "c", "d", "e", "f", "g", "h"];
 
-/// The instruction after a call of its builder, `-` for none.
+/// The builder after this call, where `-` is no call.
 fn called(builder: InstructionBuilder, call: &str, case: &mut Case<'_>) -> InstructionBuilder {
     match call {
         "-" => builder,
@@ -41,7 +41,7 @@ fn called(builder: InstructionBuilder, call: &str, case: &mut Case<'_>) -> Instr
     }
 }
 
-/// The builder of an instruction of this name, documentation and format, and of these operands, where they are set.
+/// The builder of an instruction of this name, documentation and format, and of these operands, if they are set.
 fn builder_of(
     alloc: Global,
     [name, doc]: [&str; 2],
@@ -80,14 +80,14 @@ pub(crate) struct Instructions<'l> {
     variables: Variables<'l>,
     kinds: Kinds<'l>,
     formats: Formats<'l>,
-    /// The instructions that were given, and not built.
+    /// The instructions that were added to the list, and not built.
     all: AllInstructions,
     /// The instruction that was built last.
     content: Option<InstructionContent>,
 }
 
 impl<'l> Instructions<'l> {
-    /// Nothing is declared, and nothing built.
+    /// Nothing is declared, and nothing is built.
     pub(crate) fn new(alloc: Global) -> Instructions<'l> {
         Instructions {
             alloc,
@@ -99,7 +99,7 @@ impl<'l> Instructions<'l> {
         }
     }
 
-    /// The format with one more part, for which the word stands: `imm:KIND` and `designate:PLACE` are two.
+    /// The format with one more part, which the word gives, such as `imm:KIND` and `designate:PLACE`.
     fn with_part(
         &self,
         builder: InstructionFormatBuilder,
@@ -137,7 +137,7 @@ impl<'l> Instructions<'l> {
         Ok(builder)
     }
 
-    /// The operands of a list, with commas between them, named by their places, or `''` for an empty one. `-` is none.
+    /// The operands of a list, with commas between them, named by their places. `''` is the empty list, and `-` no list.
     fn operands_of(&self, list: &str, names: &[&str]) -> Result<Option<Vec<Operand>>, Trouble> {
         if list == "-" {
             return Ok(None);
@@ -152,8 +152,8 @@ impl<'l> Instructions<'l> {
         Ok(Some(operands))
     }
 
-    /// The builder of an instruction by the next words: its name, the name of its format, its inputs and outputs, or `-` where they
-    /// aren't set, and the calls of its builder, with commas between them, or `-` for none; and its documentation.
+    /// The builder of an instruction by the next words: its name, the name of its format, its inputs and outputs, or `-` if they aren't
+    /// set, and the calls of its builder, with commas between them, or `-` for no call; and its documentation.
     fn next_builder(&self, case: &mut Case<'l>) -> Result<InstructionBuilder, Trouble> {
         let told = [text_of(case.word()), case.doc()];
         let format = self.formats.next_id(case)?;
@@ -185,7 +185,7 @@ impl<'l> Instructions<'l> {
         Ok(())
     }
 
-    /// `given INSTRUCTION | DOC`: adds an instruction to a list: how many are in the list, what it keeps of this one, and the value
+    /// `given INSTRUCTION | DOC`: adds an instruction to a list. Writes how many are in the list, what it keeps of this one, and the value
     /// operands that are found of it.
     fn give(&mut self, case: &mut Case<'l>) -> Result<(), Trouble> {
         let builder = self.next_builder(case)?;
@@ -239,8 +239,8 @@ impl<'l> Instructions<'l> {
         Ok(())
     }
 
-    /// `second VARIABLE INSTRUCTION`: whether a second control was named, before the variable is and after that; the one that is named;
-    /// and whether the instruction fits then.
+    /// `second VARIABLE INSTRUCTION`: whether a second control was named, before the variable is and after that; the one that is named; and
+    /// whether the instruction then fits.
     fn write_second(&self, case: &mut Case<'l>) -> Result<(), Trouble> {
         let second = self.variables.next(case)?;
         let builder = self.next_builder(case)?;
@@ -257,8 +257,8 @@ impl<'l> Instructions<'l> {
         Ok(())
     }
 
-    /// Writes the answer to a line about instructions and kinds, or about variables. `declarations`: how many instructions were given,
-    /// where they belong together with the registry and the table.
+    /// Writes the answer to a line about instructions and kinds, or about variables. `declarations` asks how many instructions were given,
+    /// if they belong together with the registry and the table.
     fn answer(&mut self, word: &str, case: &mut Case<'l>) -> Result<(), Trouble> {
         match word {
             "equal_sets" => equal_sets(self.alloc, case),
@@ -292,7 +292,6 @@ impl<'l> Instructions<'l> {
         }
     }
 
-    /// Writes the answer to a line about formats.
     fn answer_on_formats(&mut self, word: &str, case: &mut Case<'l>) -> Result<(), Trouble> {
         match word {
             "formats" => {
@@ -311,7 +310,6 @@ impl<'l> Instructions<'l> {
 }
 
 impl<'l> Answering<'l> for Instructions<'l> {
-    /// Adds the answer to a line.
     fn answer_line(&mut self, line: &'l str, answers: &mut String) -> Result<(), AllocError> {
         let mut case = Case::of(self.alloc, line)?;
         let word = case.word();

@@ -12,7 +12,7 @@ fn add_value(alloc: Global, values: &mut EnumValues, value: &str) -> Result<Opti
     Ok(values.insert(name, Text::new(alloc, variant)?)?)
 }
 
-/// The values of an enum, with commas between them, or `''` for none.
+/// The values of an enum, with commas between them, or `''` if there are none.
 fn values_of(alloc: Global, list: &str) -> Result<EnumValues, Trouble> {
     let mut values = EnumValues::new(alloc);
     if list != "''" {
@@ -23,7 +23,7 @@ fn values_of(alloc: Global, list: &str) -> Result<EnumValues, Trouble> {
     Ok(values)
 }
 
-/// Writes the values in their order, each as `NAME=VARIANT`, or `-` for none.
+/// Writes the values in order, each as `NAME=VARIANT`, or `-` if there are none.
 fn write_values(values: &EnumValues, case: &mut Case<'_>) {
     let start = case.written();
     for (name, variant) in values.iter() {
@@ -33,7 +33,7 @@ fn write_values(values: &EnumValues, case: &mut Case<'_>) {
     case.end_list(start);
 }
 
-/// Writes a text that was found, or `-` for none.
+/// Writes a text that was found, or `-` if none was.
 fn write_found(found: Option<&Text>, case: &mut Case<'_>) {
     match found {
         Some(text) => case.text(text.as_str()),
@@ -41,7 +41,7 @@ fn write_found(found: Option<&Text>, case: &mut Case<'_>) {
     }
 }
 
-/// `insert LIST VALUE`: how many values there are when one is added to a list, the values in order, and for what the name stood before.
+/// `insert LIST VALUE`: how many values there are after one is added to a list, the values in order, and what the name stood for before.
 pub(crate) fn insert_value(alloc: Global, case: &mut Case<'_>) -> Result<(), Trouble> {
     let mut values = values_of(alloc, case.word())?;
     let before = add_value(alloc, &mut values, case.word())?;
@@ -77,8 +77,8 @@ pub(crate) fn write_kind(kind: &OperandKind, variables: &Variables<'_>, case: &m
     }
 }
 
-/// Writes what an operand shows: its name, its kind, the tests that hold of it and its kind, or `-` for none, its variable, and its
-/// documentation, which is none where its variable is of another registry.
+/// Writes what an operand shows: its name, its kind, the tests that hold of it and its kind, or `-` if no test does, its variable, and its
+/// documentation, which is missing if its variable is of another registry.
 fn write_operand(operand: &Operand, variables: &Variables<'_>, case: &mut Case<'_>) {
     case.text(operand.name.as_str());
     case.text(" of ");
@@ -117,7 +117,7 @@ pub(crate) struct Kinds<'l> {
 }
 
 impl<'l> Kinds<'l> {
-    /// No kind.
+    /// An empty list of kinds.
     pub(crate) fn new(alloc: Global) -> Kinds<'l> {
         Kinds {
             alloc,
@@ -167,7 +167,6 @@ impl<'l> Kinds<'l> {
         }
     }
 
-    /// The operand of this name and kind.
     pub(crate) fn operand(
         &self,
         variables: &Variables<'_>,
@@ -178,7 +177,7 @@ impl<'l> Kinds<'l> {
         Ok(Operand::new(name, self.kind(variables, kind)?))
     }
 
-    /// The operand of this name and kind, with its own documentation where one is given.
+    /// The operand of this name and kind, with its own documentation if one is given.
     fn told_operand(
         &self,
         variables: &Variables<'_>,

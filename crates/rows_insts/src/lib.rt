@@ -1,7 +1,6 @@
-//! Reads groups of settings, sets of types, type variables, kinds of operands, formats and instructions line by line, and writes what
-//! each shows: its text, its parts, whether something may be asked of it, or its first fault. These lines show what only calls can: what a
-//! file of declarations can say is a row of the program `rows`. A line that begins with `#` is written as it is; each other line has its
-//! answer.
+//! Reads groups of settings, type sets, type variables, kinds of operands, formats and instructions line by line, and writes what each
+//! shows: its text, its parts, whether something may be asked of it, or its first fault. These lines show what only calls can: what a file
+//! of declarations can say is a row of the program `rows`. A line that begins with `#` is copied, and each other line has its answer.
 #![tactic(auto)]
 
 mod compared;

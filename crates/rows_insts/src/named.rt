@@ -4,8 +4,7 @@ ghost use Rattle.meta_settings.specs.declared.index.PresetType.TheVariants.{Bool
 use meta_settings::{BoolSettingIndex, PresetIndex, PresetType, preset};
 use std::alloc::{AllocError, Global};
 
-/// What `preset!` makes of two booleans and a preset between them: these three, in this order. It makes them for any others
-/// alike.
+/// What `preset!` makes of two booleans and a preset between them: these three, in this order. It does the same for any others.
 pub(crate) fn named_in_order(
     alloc: Global,
     a: BoolSettingIndex,

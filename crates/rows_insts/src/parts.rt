@@ -22,7 +22,7 @@ fn interval_of(word: &str) -> Option<Interval> {
     }
 }
 
-/// The builder of these parts: each is a name and an interval, or `scalars` and `yes` or `no`. A part may be set once.
+/// The builder of these parts. Each is a name and an interval, or `scalars` and `yes` or `no`. A part may be set once.
 pub(crate) fn builder_of(words: &[&str]) -> Result<TypeSetBuilder, Trouble> {
     let mut builder = TypeSetBuilder::new();
     for pair in words.chunks(2) {
@@ -50,7 +50,7 @@ pub(crate) fn builder_of(words: &[&str]) -> Result<TypeSetBuilder, Trouble> {
     Ok(builder)
 }
 
-/// The set that a builder spans, where it can be built.
+/// The set of a builder, if it can be built.
 pub(crate) fn built(alloc: Global, builder: TypeSetBuilder) -> Result<TypeSet, Trouble> {
     if !builder.can_build() {
         return Err(Trouble::NoCase);

@@ -9,7 +9,7 @@ use std::alloc::{AllocError, Global};
 pub enum Subject {
     /// Groups of settings.
     Settings,
-    /// Sets of types, and type variables.
+    /// Type sets and type variables.
     Sets,
     /// Kinds of operands, formats and instructions.
     Instructions,

@@ -34,7 +34,7 @@ pub(crate) fn write_masks(case: &mut Case<'_>, masks: Masks) {
     case.field(" ", &masks.floats);
 }
 
-/// Writes the masks of a set, its size, how many of all types it contains, and its members as they are listed.
+/// Writes the masks of a set, its size, how many of all types it contains, and its members, as they are listed.
 fn write_set(alloc: Global, set: &TypeSet, case: &mut Case<'_>) -> Result<(), AllocError> {
     let mut contained: u32 = 0;
     for number in FIRST_NUMBER..END_OF_NUMBERS {

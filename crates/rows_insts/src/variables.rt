@@ -6,8 +6,8 @@ use meta_typevar::{TypeSet, TypeVar, TypeVarParent, TypeVars};
 use rows_words::{Answering, Case, Trouble, found, function_named, hash_of, type_of};
 use std::alloc::{AllocError, Global};
 
-/// Writes the masks of a variable's coded image, and those of what is kept as its set, where that is the coded image; the only
-/// member of its coded image, and the only type that it can have.
+/// Writes the masks of a variable's coded image, and those of its stored set, if that is the coded image; the only member of its coded
+/// image, and the only type that it can have.
 fn write_sets(
     case: &mut Case<'_>,
     alloc: Global,
@@ -38,7 +38,7 @@ fn write_sets(
     Ok(())
 }
 
-/// A registry of variables, and what words stand for.
+/// A registry of variables, and the words for its variables.
 #[derive(Drop)]
 pub(crate) struct Variables<'l> {
     alloc: Global,
@@ -51,7 +51,7 @@ pub(crate) struct Variables<'l> {
 }
 
 impl<'l> Variables<'l> {
-    /// No variable.
+    /// An empty registry.
     pub(crate) fn new(alloc: Global) -> Variables<'l> {
         Variables {
             alloc,
@@ -61,7 +61,7 @@ impl<'l> Variables<'l> {
         }
     }
 
-    /// `new`: another registry without a variable.
+    /// `new`: begins another, empty registry.
     fn begin(&mut self, case: &mut Case<'_>) {
         self.vars = TypeVars::new(self.alloc);
         self.numbered.clear();
@@ -84,7 +84,7 @@ impl<'l> Variables<'l> {
         self.named(case.word())
     }
 
-    /// The name of a variable, `-` for none, and `?` where it is of another registry.
+    /// The name of a variable, `-` if there is none, and `?` if it is of another registry.
     pub(crate) fn name(&self, tv: Option<TypeVar>) -> &str {
         match tv {
             Some(tv) if self.vars.is_of(tv) => self.vars.content(tv).name.as_str(),
@@ -93,7 +93,7 @@ impl<'l> Variables<'l> {
         }
     }
 
-    /// Counts the variable that a call answered, lets the word stand for it, and tells whether the call added it.
+    /// Counts the variable that a call answered, lets the word stand for it, and answers whether the call added it.
     fn keep(&mut self, word: &'l str, tv: TypeVar) -> Result<bool, Trouble> {
         let is_added = self.vars.len() > self.numbered.len();
         if is_added {
@@ -157,7 +157,7 @@ impl<'l> Variables<'l> {
         }?)
     }
 
-    /// Writes, behind a word, the number of a variable by the order in which they were added, `?` for one that wasn't, and `-` for
+    /// Writes, after a word, the number of a variable by the order in which they were added, `?` if it wasn't added, and `-` if there is
     /// none.
     fn write_number(&self, word: &str, found: Option<TypeVar>, case: &mut Case<'_>) {
         case.text(word);
@@ -172,8 +172,8 @@ impl<'l> Variables<'l> {
         case.letter('?');
     }
 
-    /// Writes what the registry tells of a variable, if it is its own: its number, whether it was added, its name, its documentation
-    /// and its parent; its sets; and what is free of it, its root and its chain.
+    /// Writes what the registry has of a variable, if it is its own: its number, whether it was added, its name, its documentation and its
+    /// parent; its sets; and its free variable, its root and its chain.
     fn describe(&self, tv: TypeVar, change: &str, case: &mut Case<'_>) -> Result<(), Trouble> {
         if !self.vars.is_of(tv) {
             return Err(Trouble::NoCase);
@@ -204,9 +204,9 @@ impl<'l> Variables<'l> {
         Ok(())
     }
 
-    /// `root X = SET | DOC` and `one X = TYPE`, a fresh root of a set and one that stands for a type; `copy X of Y`, a fresh root with the
-    /// set of another; `derive X = FUNCTION Y`, what `derived` answers; `call X = FUNCTION Y`, what the call of this name answers: lets the
-    /// word stand for the variable, and writes what the registry tells of it.
+    /// Lets a word stand for a variable, and writes what the registry has of it. `root X = SET | DOC` and `one X = TYPE` are a fresh root
+    /// of a set and one that stands for a type; `copy X of Y` is a fresh root with the set of another; `derive X = FUNCTION Y` is what
+    /// `derived` answers; `call X = FUNCTION Y` is what the call of this name answers.
     fn make(&mut self, how: &str, case: &mut Case<'l>) -> Result<(), Trouble> {
         let word = case.word();
         case.expect(if how == "copy" { "of" } else { "=" });
@@ -230,8 +230,8 @@ impl<'l> Variables<'l> {
         self.describe(tv, if is_added { "added" } else { "known" }, case)
     }
 
-    /// `equal_variables X Y`: whether two variables are equal; of equal ones whether the first is equal to the other had by
-    /// reference, and whether they hash equally; of others whether the first comes before the other.
+    /// `equal_variables X Y`: whether two variables are equal; if they are, also whether the first is equal to a reference to the other,
+    /// and whether they hash equally; if not, whether the first comes before the other.
     fn write_equal(&self, case: &mut Case<'_>) -> Result<(), Trouble> {
         let (one, other) = (self.next(case)?, self.next(case)?);
         let referred = TypeVar::from(&other);
@@ -247,7 +247,7 @@ impl<'l> Variables<'l> {
         Ok(())
     }
 
-    /// `parent X FUNCTION Y`: whether the parent of a variable is Y by the function, and whether it hashes as that does.
+    /// `parent X FUNCTION Y`: whether the parent of a variable is Y by the function, and whether both hash alike.
     fn write_parent(&self, case: &mut Case<'_>) -> Result<(), Trouble> {
         let derived = self.next(case)?;
         let derived_func = function_named(case.word())?;
@@ -265,8 +265,10 @@ impl<'l> Variables<'l> {
         Ok(())
     }
 
-    /// Writes the answer to a line about sets and variables: to those that make a variable, `new`, `count`, `show X`, the variable as it
-    /// is, `is_of X`, whether it is of the registry, `can_derive FUNCTION X`, whether the function may be used of it, or one about a set.
+    /// Writes the answer to a line about variables or sets. `new` begins another registry, and `root`, `one`, `copy`, `derive` and `call`
+    /// make a variable. `count` writes how many there are, and `show X` what the registry has of a variable. `is_of X` writes whether it is
+    /// of the registry, and `can_derive FUNCTION X` whether the function may be used on it. `equal_variables` and `parent` compare
+    /// variables. Any other line is about a set.
     pub(crate) fn answer(&mut self, word: &str, case: &mut Case<'l>) -> Result<(), Trouble> {
         match word {
             "root" | "one" | "copy" | "derive" | "call" => return self.make(word, case),
@@ -297,7 +299,7 @@ impl<'l> Variables<'l> {
 }
 
 impl<'l> Answering<'l> for Variables<'l> {
-    /// Adds the answer to a line. One that asks nothing is told from one that asks what can't be asked.
+    /// Adds the answer to a line. A line that asks nothing has another answer than one that asks what can't be asked.
     fn answer_line(&mut self, line: &'l str, answers: &mut String) -> Result<(), AllocError> {
         let mut case = Case::of(self.alloc, line)?;
         let word = case.word();

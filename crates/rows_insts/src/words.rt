@@ -2,7 +2,7 @@ use meta_types::Text;
 use rows_words::Case;
 use std::alloc::{AllocError, Global};
 
-/// The text that a word stands for: itself, but that `''` is the empty one.
+/// The text that a word stands for: itself, and the empty text for `''`.
 pub(crate) fn text_of(word: &str) -> &str {
     if word == "''" { "" } else { word }
 }
@@ -16,7 +16,7 @@ pub(crate) fn texts(
     Ok((first, second, Text::new(alloc, third)?))
 }
 
-/// Writes the text behind ` | `, and nothing where it is empty.
+/// Writes the text after ` | `, and nothing if it is empty.
 pub(crate) fn write_prose(case: &mut Case<'_>, text: &str) {
     if !text.is_empty() {
         case.field(" | ", &text);

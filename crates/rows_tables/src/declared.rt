@@ -52,7 +52,7 @@ pub(crate) fn ask_declared(
     }
 }
 
-/// The tables of declarations, or none where the word asks for their fault, which is written.
+/// The tables of declarations, or `None` if the word asks for their fault, which is written.
 pub(crate) fn tables_or_fault(
     alloc: Global,
     declarations: &Declarations,

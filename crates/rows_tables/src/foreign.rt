@@ -26,7 +26,7 @@ fn add_bool(alloc: Global, group: &mut SettingGroupBuilder) -> Result<BoolSettin
     Ok(group.add_bool(name, description, comment, false)?)
 }
 
-/// Adds a preset `p` of what it names.
+/// Adds a preset `p` of these entries.
 fn add_preset(
     alloc: Global,
     group: &mut SettingGroupBuilder,
@@ -65,7 +65,7 @@ fn group_of(alloc: Global, sort: &str) -> Result<SettingGroupBuilder, Trouble> {
     Ok(group)
 }
 
-/// Declarations of these, where they belong together.
+/// Declarations of these, if they belong together.
 fn declarations_of(
     vars: TypeVars,
     formats: FormatTable,
@@ -153,7 +153,6 @@ fn with_field(alloc: Global, vars: TypeVars, variable: TypeVar) -> Result<Declar
     declarations_of(vars, formats, all, Vec::new(alloc))
 }
 
-/// Whether declarations are described.
 fn are_described(alloc: Global, declarations: &Declarations) -> Result<bool, Trouble> {
     Ok(write_description(alloc, &built_of(alloc, declarations)?)?.is_some())
 }

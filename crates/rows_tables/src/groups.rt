@@ -8,7 +8,7 @@ use std::alloc::Global;
 use std::marker::Brand;
 use std::sync::ledger::{Blank, Ledger};
 
-/// Writes what the tables hold of a group beside its entries, or `none`.
+/// Writes what the tables hold of a group apart from its entries, or `none`.
 fn write_group(tables: &Tables, group: usize, case: &mut Case<'_>) {
     let Some(name) = tables.group_name(group) else {
         return case.text("none");
@@ -29,7 +29,7 @@ fn write_group(tables: &Tables, group: usize, case: &mut Case<'_>) {
     case.field(", slots ", &slots.len());
 }
 
-/// Writes an entry, where it stands, what it is, and its default, or `none`.
+/// Writes an entry, its place, what it is, and its default, or `none`.
 fn write_entry(tables: &Tables, group: usize, index: u16, case: &mut Case<'_>) {
     let Some(entry) = tables.descriptor(group, index) else {
         return case.text("none");

@@ -7,7 +7,6 @@ use meta_tokens::{Bytes, tokens_of, write_tokens};
 use rows_words::{Case, Trouble, write_bytes};
 use std::alloc::Global;
 
-/// The items of a text.
 fn items_of(alloc: Global, text: &[u8]) -> Result<Vec<Item>, Trouble> {
     match read_items(alloc, text) {
         Ok(read) => Ok(read.items),
@@ -16,7 +15,7 @@ fn items_of(alloc: Global, text: &[u8]) -> Result<Vec<Item>, Trouble> {
     }
 }
 
-/// What the items of a text declare, which may show a fault.
+/// What the items of a text declare, which may have a fault.
 pub(crate) fn declared(alloc: Global, text: &[u8]) -> Result<Declarations, Trouble> {
     match declare(alloc, &items_of(alloc, text)?) {
         Ok(declarations) => Ok(declarations),
@@ -47,8 +46,8 @@ fn write_format(alloc: Global, word: Vec<u8>, case: &mut Case<'_>) {
     write_declared(alloc, &[item], case);
 }
 
-/// Writes what a word asks of the text of a file, and tells whether it does: `tokens` and `items` what its tokens and its items are as
-/// canonical text, and `declares` how much its items declare, or which of them is wrong first. `format` asks the same of a format whose
+/// Writes what a word asks of the text of a file, and answers whether it asks that: `tokens` and `items` ask for its tokens and its items
+/// as canonical text, and `declares` how much its items declare, or which of them is wrong first. `format` asks the same of a format whose
 /// word is the text, and `field own` and `field other` whether declarations are described whose format has a field of values of a variable.
 pub(crate) fn ask_items(
     alloc: Global,

@@ -2,7 +2,7 @@ use meta_query::{Lines, Question, Reply, Status};
 use rows_words::{Case, Trouble, write_bytes};
 use std::alloc::Global;
 
-/// Writes the lines of an input, each with an LF behind it.
+/// Writes the lines of an input, each with an LF after it.
 pub(crate) fn write_lines(input: &[u8], case: &mut Case<'_>) {
     for line in Lines::new(input) {
         write_bytes(case, line);
@@ -21,7 +21,7 @@ pub(crate) fn write_count(input: &[u8], case: &mut Case<'_>) {
 }
 
 /// Writes what a question asks: the name of the instruction, or the length of a long one, the controlling number, that of the second
-/// control after `/` where there is one, and the numbers of the results and of the values.
+/// control after `/` if there is one, and the numbers of the results and of the values.
 fn write_asked(alloc: Global, question: &Question, case: &mut Case<'_>) -> Result<(), Trouble> {
     let name = question.name();
     if name.len() > 100 {

@@ -7,7 +7,7 @@ use std::alloc::Global;
 use std::marker::Brand;
 use std::sync::ledger::{Blank, Ledger};
 
-/// What stands in the places of the results before they are inferred.
+/// What the places of the results hold before the results are inferred.
 const PLACES: [u16; 7] = [9; 7];
 
 /// Writes `NUMBER NAME FORMAT FLAGS SET SECOND CONSTRAINT`, or `none`.
@@ -42,7 +42,7 @@ fn write_sets(tables: &Tables, case: &mut Case<'_>) {
     }
 }
 
-/// Writes slots, parted by commas, `-` for one that is vacant.
+/// Writes slots, separated by commas, `-` for a vacant one.
 pub(crate) fn write_slots(slots: &[Option<u16>], case: &mut Case<'_>) {
     let start = case.written();
     for slot in slots {
@@ -90,7 +90,7 @@ fn found_count(tables: &Tables) -> usize {
     count
 }
 
-/// The number of a control, where `-` is none.
+/// The number of a control, where `-` is no control.
 fn control_of(word: &str) -> Result<Option<u16>, Trouble> {
     match word {
         "-" => Ok(None),
@@ -98,7 +98,7 @@ fn control_of(word: &str) -> Result<Option<u16>, Trouble> {
     }
 }
 
-/// Takes the number of the control and, behind `/`, that of the second control, where `-` is none.
+/// Takes the number of the control and, after `/`, that of the second control, where `-` is no control.
 fn next_controls(case: &mut Case<'_>) -> Result<[Option<u16>; 2], Trouble> {
     let word = case.word();
     let (ctrl, second) = word.split_once('/').unwrap_or((word, "-"));
@@ -142,10 +142,10 @@ fn write_inferred(tables: &Tables, case: &mut Case<'_>) -> Result<(), Trouble> {
     Ok(())
 }
 
-/// Writes what a word asks of opcodes, and tells whether it does. `opcodes`, `sets`, `constraints` and `slots` write all of these, and
-/// `size` and `found` how many slots there are and how many names are found. `opcode NUMBER` is one of them, `find NAMES` looks up
-/// each name by a plain and by a counted look-up, `accepts OPCODE CONTROL RESULTS VALUES` and `infer OPCODE CONTROL` ask about types by
-/// their numbers, and `control OPCODE NUMBER` asks which type controls where the designated value has this one.
+/// Writes what a word asks of opcodes, and answers whether it asks that. `opcodes`, `sets`, `constraints` and `slots` write all of these,
+/// and `size` and `found` how many slots there are and how many names are found. `opcode NUMBER` is one of them, `find NAMES` looks up each
+/// name by a plain and by a counted look-up, `accepts OPCODE CONTROL RESULTS VALUES` and `infer OPCODE CONTROL` ask about types by their
+/// numbers, and `control OPCODE NUMBER` asks which type controls if the designated value has this one.
 pub(crate) fn ask_opcodes(
     alloc: Global,
     tables: &Tables,

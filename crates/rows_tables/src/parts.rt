@@ -15,7 +15,6 @@ const MOST_EDITS: usize = 20;
 /// What is written of parts that make no tables.
 const NONE: &str = "not well-formed";
 
-/// Adds copies of texts.
 fn push_copies(list: &mut Vec<Text>, alloc: Global, texts: &[Text]) -> Result<(), AllocError> {
     for text in texts {
         list.push(text.copy(alloc)?)?;
@@ -23,7 +22,6 @@ fn push_copies(list: &mut Vec<Text>, alloc: Global, texts: &[Text]) -> Result<()
     Ok(())
 }
 
-/// A copy of an entry.
 fn entry_copy(alloc: Global, entry: &Descriptor) -> Result<Descriptor, AllocError> {
     match (entry.name.copy(alloc), entry.description.copy(alloc)) {
         (Ok(name), Ok(description)) => Ok(Descriptor {
@@ -48,7 +46,7 @@ fn push_entries(
     Ok(())
 }
 
-/// Adds what a group of tables holds beside its name.
+/// Adds what a group of tables holds apart from its name.
 fn fill_group(
     parts: &mut GroupParts,
     alloc: Global,
@@ -148,7 +146,7 @@ fn edited_parts(
     Ok(parts)
 }
 
-/// Puts something in the place with the number, where there is one.
+/// Puts something at the place with the number, if there is such a place.
 fn put<T: Drop>(list: &mut Vec<T>, place: usize, item: T, case: &mut Case<'_>) {
     match list.get_mut(place) {
         Some(old) => *old = item,
@@ -156,7 +154,6 @@ fn put<T: Drop>(list: &mut Vec<T>, place: usize, item: T, case: &mut Case<'_>) {
     }
 }
 
-/// Puts a text in a place.
 fn put_text(
     alloc: Global,
     list: &mut Vec<Text>,
@@ -195,7 +192,7 @@ fn put_byte(list: &mut Vec<u8>, case: &mut Case<'_>) {
     put(list, place, byte, case);
 }
 
-/// Makes a list so long, with its last item again and again where it was shorter.
+/// Gives a list this length. If it was shorter, its last item is repeated.
 fn resize<T: Copy + Drop>(list: &mut Vec<T>, count: usize, case: &mut Case<'_>) {
     match list.last().copied() {
         Some(last) => case.note(list.resize(count, last)),
@@ -203,7 +200,6 @@ fn resize<T: Copy + Drop>(list: &mut Vec<T>, count: usize, case: &mut Case<'_>) 
     }
 }
 
-/// The same of texts.
 fn resize_texts(alloc: Global, list: &mut Vec<Text>, count: usize) -> Result<(), Trouble> {
     list.truncate(count);
     for _ in list.len()..count {
@@ -240,7 +236,7 @@ fn next_entry(case: &mut Case<'_>) -> OpcodeConstraints {
     }
 }
 
-/// Takes what an entry is.
+/// Takes the kind of an entry.
 fn next_detail(case: &mut Case<'_>) -> Detail {
     match case.word() {
         "bool" => Detail::Bool { bit: case.number() },
@@ -257,7 +253,6 @@ fn next_detail(case: &mut Case<'_>) -> Detail {
     }
 }
 
-/// Changes a part of a group.
 fn edit_group(
     alloc: Global,
     group: &mut GroupParts,
@@ -318,7 +313,7 @@ fn makes_groups(alloc: Global, groups: Vec<GroupParts>) -> Result<bool, AllocErr
     Ok(makes)
 }
 
-/// Whether the tables of the opcodes and those of each group can be made by themselves.
+/// Whether the tables of the opcodes, and those of each group, can be made each alone.
 fn makes_each(alloc: Global, parts: TableParts) -> Result<bool, AllocError> {
     let makes = makes_groups(alloc, parts.groups)?;
     let opcodes = opcodes_from_parts(
@@ -332,7 +327,7 @@ fn makes_each(alloc: Global, parts: TableParts) -> Result<bool, AllocError> {
     Ok(opcodes.is_some() && makes)
 }
 
-/// What parts make, all together: the same tables as these, others, or none.
+/// What parts make, all together: the same tables as these, others, or no tables.
 fn made_of(alloc: Global, parts: TableParts, tables: &Tables) -> Result<&'static str, AllocError> {
     match tables_from_parts(alloc, parts)? {
         Some(made) if made.same(tables) && tables.same(&made) => Ok("same"),
@@ -341,8 +336,8 @@ fn made_of(alloc: Global, parts: TableParts, tables: &Tables) -> Result<&'static
     }
 }
 
-/// Takes tables apart, changes the parts by the words that are left, and writes what the parts make, all together and each alone: the
-/// same tables, others, or none.
+/// Takes tables apart, changes the parts by the words that are left, and writes what the parts make, all together and each alone: the same
+/// tables, others, or no tables.
 pub(crate) fn write_made(
     alloc: Global,
     tables: &Tables,

@@ -3,7 +3,7 @@ use meta_query::{Inference, Lines, Query, answer_line};
 use rows_words::{Case, Trouble, write_bytes};
 use std::alloc::Global;
 
-/// Writes a controlling number, and that of the second control behind `/`, where there is one.
+/// Writes a controlling number, and that of the second control after `/`, if there is one.
 fn write_controls(control: Option<u16>, second: Option<u16>, case: &mut Case<'_>) {
     case.letter(' ');
     case.number_or_dash(control);

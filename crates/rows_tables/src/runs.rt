@@ -15,7 +15,7 @@ fn text_of(alloc: Global, word: &str) -> Result<Text, Trouble> {
     }
 }
 
-/// The words of a run. One word of no letters is one.
+/// The words of a run. A word without letters is one, too.
 fn texts_of(alloc: Global, words: &[&str]) -> Result<Vec<Text>, Trouble> {
     let mut texts = Vec::new(alloc);
     for word in words {
@@ -24,8 +24,8 @@ fn texts_of(alloc: Global, words: &[&str]) -> Result<Vec<Text>, Trouble> {
     Ok(texts)
 }
 
-/// Writes how a run of these words over the input ends: its status, what was written, `-` for nothing, and the next byte of the source,
-/// where one was left.
+/// Writes how a run of these words over the input ends: its status, what was written, `-` if that is nothing, and the next byte of the
+/// source, if one was left.
 fn write_run(
     alloc: Global,
     outside: Outside,
@@ -49,8 +49,9 @@ fn write_run(
     Ok(())
 }
 
-/// Writes how a run of the words that are left ends over an input: `run WORDS`. `reads COUNT WORDS` and `writes COUNT WORDS` run so many
-/// times, and in each run the read or the write with its number fails, from 0, which is none.
+/// Writes how a run of the words that are left ends over an input: `run WORDS`. `reads COUNT WORDS` and `writes COUNT WORDS` make COUNT
+/// runs, numbered from 0. In each the read or the write with the number of the run fails. Calls are numbered from 1, so no call fails in
+/// the first run.
 pub(crate) fn write_runs(
     alloc: Global,
     mut outside: Outside,

@@ -7,11 +7,11 @@ use meta_gen::{Declarations, Tables};
 use rows_words::{Answering, Case, Outside, Trouble, decoded, number};
 use std::alloc::{AllocError, Global};
 
-/// The room of a sink, where a line says nothing of it.
+/// The room of a sink, if no line gives another.
 const ROOM: usize = 8_192;
 
-/// A file of declarations, or the sort of what is declared in its place, its tables once a line asks for them, a file that was kept for a
-/// comparison, and how the source and the sink of a run behave.
+/// A file of declarations, or the word for what is declared in its place; its tables once a line asks for them; a file that was kept for a
+/// comparison; and how the source and the sink of a run behave.
 #[derive(Drop)]
 pub(crate) struct Session<'l> {
     alloc: Global,
@@ -33,7 +33,7 @@ fn add_numbered(file: &mut Vec<u8>, pattern: &[u8], number: &str) -> Result<(), 
     Ok(())
 }
 
-/// Adds bytes to a file so many times, with the number of each time in the place of each `%`: `COUNT BYTES`.
+/// Adds bytes to a file several times, with the number of each time for each `%`: `COUNT BYTES`.
 fn add_many(file: &mut Vec<u8>, alloc: Global, words: &str) -> Result<(), Trouble> {
     let (count, bytes) = words.split_once(' ').unwrap_or((words, ""));
     let count: u32 = number(count)?;
@@ -45,7 +45,7 @@ fn add_many(file: &mut Vec<u8>, alloc: Global, words: &str) -> Result<(), Troubl
     Ok(())
 }
 
-/// Adds instructions `s0`, `s1` and so on of a format `U` to a file, each of one value whose set no other has.
+/// Adds instructions `s0`, `s1` and so on of a format `U` to a file. Each has one value, whose set no other instruction has.
 fn add_apart(file: &mut Vec<u8>, alloc: Global, count: u16) -> Result<(), Trouble> {
     for number in 0..count {
         let lanes: (u16, u16) = (1 << (number / 64 % 4), 16 << (number / 16 % 4));
@@ -86,10 +86,10 @@ impl<'l> Session<'l> {
         }
     }
 
-    /// Does what a line says, and tells whether it says anything. `new` begins a case. `| LINE` adds a line to the file, `with BYTES` adds
-    /// bytes, `many COUNT BYTES` does so many times, and `apart COUNT` adds instructions whose sets no other has. `astray SORT` declares a
-    /// preset that names what its group doesn't have, `keep` keeps the file for `same`, and `source STEP FAIL` and `sink ROOM STEP FAIL`
-    /// say how these behave.
+    /// Does what a line says, and answers whether it says anything. `new` begins a case. `| LINE` adds a line to the file, `with BYTES`
+    /// adds bytes, `many COUNT BYTES` adds them COUNT times, and `apart COUNT` adds instructions whose sets no other has. `astray SORT`
+    /// declares a preset that names what its group doesn't have, `keep` keeps the file for `same`, and `source STEP FAIL` and `sink ROOM
+    /// STEP FAIL` say how these behave.
     fn make(&mut self, line: &'l str) -> Result<bool, Trouble> {
         let (word, rest) = line.split_once(' ').unwrap_or((line, ""));
         match word {
@@ -122,7 +122,7 @@ impl<'l> Session<'l> {
         }
     }
 
-    /// The tables of what is declared, or none where the word asks for its fault, which is written.
+    /// The tables of what is declared, or `None` if the word asks for its fault, which is written.
     fn made(&self, word: &str, case: &mut Case<'_>) -> Result<Option<Tables>, Trouble> {
         tables_or_fault(self.alloc, &self.declarations()?, word, case)
     }

@@ -21,7 +21,6 @@ fn made(alloc: Global, name: &str, built: &Built<'_>) -> Result<String, Trouble>
     }
 }
 
-/// Writes the text of this name to the sink.
 fn write(
     alloc: Global,
     name: &str,
@@ -40,8 +39,8 @@ fn write(
     }
 }
 
-/// Writes what the writer of a text does, by the name of the text: whether its sink took all of what is made in memory, or how many
-/// bytes of its front after a fault.
+/// Writes what the writer of a text does, by the name of the text: whether its sink took all of what is made in memory, or how many bytes
+/// of its front it took before a fault.
 fn write_name(
     alloc: Global,
     outside: Outside,
@@ -62,7 +61,7 @@ fn write_name(
     Ok(())
 }
 
-/// What is built of declarations, which there has to be.
+/// What is built of declarations, which must be valid.
 pub(crate) fn built_of(alloc: Global, declarations: &Declarations) -> Result<Built<'_>, Trouble> {
     match build_all(alloc, declarations) {
         Ok(built) => Ok(built),
@@ -70,7 +69,7 @@ pub(crate) fn built_of(alloc: Global, declarations: &Declarations) -> Result<Bui
     }
 }
 
-/// The same of declarations without a fault.
+/// Writes what the writer of a text does, over declarations without a fault.
 pub(crate) fn write_written(
     alloc: Global,
     outside: Outside,

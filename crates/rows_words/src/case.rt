@@ -6,8 +6,8 @@ use std::alloc::{AllocError, Global};
 use std::fmt::{Debug, Display};
 use std::str::FromStr;
 
-/// A line: its words, which are taken one by one, its documentation, and the answer to it, which is written piece by piece. The
-/// first trouble is kept, and told where the answer ends.
+/// A line: its words, which are taken one by one, its documentation, and the answer to it, which is written piece by piece. The first
+/// trouble is kept, and stands for the answer at its end.
 #[derive(Drop)]
 pub struct Case<'l> {
     words: Vec<&'l str>,
@@ -18,7 +18,7 @@ pub struct Case<'l> {
 }
 
 impl<'l> Case<'l> {
-    /// The words of a line have one space between them, and ` | ` stands before a documentation.
+    /// Reads a line. Its words have one space between them, and ` | ` stands before its documentation.
     pub fn of(alloc: Global, line: &'l str) -> Result<Case<'l>, AllocError> {
         let (words, doc) = line.split_once(" | ").unwrap_or((line, ""));
         Ok(Case {
@@ -30,12 +30,12 @@ impl<'l> Case<'l> {
         })
     }
 
-    /// The documentation, which may be empty.
+    /// The documentation of the line, which may be empty.
     pub fn doc(&self) -> &'l str {
         self.doc
     }
 
-    /// Takes all words that aren't taken.
+    /// Takes all words that aren't taken yet.
     pub fn rest(&mut self) -> &[&'l str] {
         let words = self.words.as_slice();
         let taken = self.taken;
@@ -51,17 +51,17 @@ impl<'l> Case<'l> {
         self.taken
     }
 
-    /// Goes back to where so many words were taken.
+    /// Goes back to where this many words were taken.
     pub fn go_back(&mut self, taken: usize) {
         self.taken = taken;
     }
 
-    /// Whether there are words that aren't taken.
+    /// Whether there are words that aren't taken yet.
     pub fn has_more(&self) -> bool {
         self.taken < self.words.len()
     }
 
-    /// Takes the next word where it is this one, and tells whether it was.
+    /// Takes the next word if it is this one, and answers whether it was.
     pub fn takes(&mut self, word: &str) -> bool {
         let Some(next) = self.words.get(self.taken) else {
             return false;
@@ -73,14 +73,14 @@ impl<'l> Case<'l> {
         true
     }
 
-    /// Ends the words of a line: one with words that aren't taken asks nothing.
+    /// Ends the words of a line. If a word isn't taken, the line asks nothing.
     pub fn end_words(&mut self) {
         if self.has_more() {
             self.refuse(Trouble::BadLine);
         }
     }
 
-    /// Ends the words of a line, with the trouble that answering it ran into.
+    /// Ends the words of a line, and keeps the trouble of its answer, if there was any.
     pub fn close(&mut self, answered: Result<(), Trouble>) {
         if let Err(trouble) = answered {
             self.refuse(trouble);
@@ -88,7 +88,7 @@ impl<'l> Case<'l> {
         self.end_words();
     }
 
-    /// Takes the next word. Without one the line asks nothing.
+    /// Takes the next word. If there is none, the line asks nothing.
     pub fn word(&mut self) -> &'l str {
         let Some(word) = self.words.get(self.taken).copied() else {
             self.refuse(Trouble::BadLine);
@@ -121,19 +121,19 @@ impl<'l> Case<'l> {
         }
     }
 
-    /// Keeps that what is asked can't be asked.
+    /// Keeps the trouble that this can't be asked.
     pub fn no_case(&mut self) {
         self.refuse(Trouble::NoCase);
     }
 
-    /// Keeps whether there was no memory.
+    /// Keeps the trouble that memory ran out, if it did.
     pub fn note(&mut self, outcome: Result<(), AllocError>) {
         if outcome.is_err() {
             self.refuse(Trouble::OutOfMemory);
         }
     }
 
-    /// What was found, or the default value where there was trouble, which is kept.
+    /// The value that was found. If there was trouble, it is kept, and the value is the default one.
     pub fn value<T: Default + Drop, E>(&mut self, outcome: Result<T, E>) -> T
     where
         Trouble: From<E>,
@@ -152,17 +152,17 @@ impl<'l> Case<'l> {
         self.trouble
     }
 
-    /// What was written so far.
+    /// The answer so far.
     pub fn as_str(&self) -> &str {
         self.text.as_str()
     }
 
-    /// How many bytes were written so far.
+    /// How many bytes of the answer are written so far.
     pub fn written(&self) -> usize {
         self.text.len()
     }
 
-    /// Writes one letter.
+    /// Writes one character.
     pub fn letter(&mut self, letter: char) {
         let written = self.text.push(letter);
         self.note(written);
@@ -174,7 +174,7 @@ impl<'l> Case<'l> {
         self.note(written);
     }
 
-    /// Writes a text that was made, where there was memory for it.
+    /// Writes a text that was made, unless memory ran out.
     pub fn made(&mut self, text: Result<Text, AllocError>) {
         match text {
             Ok(text) => self.text(text.as_str()),
@@ -182,19 +182,19 @@ impl<'l> Case<'l> {
         }
     }
 
-    /// Writes a value as it is shown.
+    /// Writes a value as it is displayed.
     pub fn shown<T: Display>(&mut self, value: &T) {
         let written = write!(self.text, "{value}");
         self.note(written);
     }
 
-    /// Writes a text, and behind it a value as it is shown.
+    /// Writes a text, and after it a value as it is displayed.
     pub fn field<T: Display>(&mut self, before: &str, value: &T) {
         self.text(before);
         self.shown(value);
     }
 
-    /// Writes a value as it is shown to a programmer.
+    /// Writes a value as `Debug` shows it.
     pub fn debugged<T: Debug>(&mut self, value: &T) {
         let written = write!(self.text, "{value:?}");
         self.note(written);
@@ -206,12 +206,12 @@ impl<'l> Case<'l> {
         self.note(written);
     }
 
-    /// Writes whether something is so.
+    /// Writes `yes` or `no`.
     pub fn yes_or_no(&mut self, is_so: bool) {
         self.text(if is_so { "yes" } else { "no" });
     }
 
-    /// Writes a number, or `-` for none.
+    /// Writes a number, or `-` if there is none.
     pub fn number_or_dash(&mut self, number: Option<u16>) {
         match number {
             Some(number) => self.shown(&number),
@@ -219,14 +219,14 @@ impl<'l> Case<'l> {
         }
     }
 
-    /// Parts what comes next from what was written, where anything was.
+    /// Separates what comes next from what was written, if anything was.
     pub fn separate(&mut self, between: char) {
         if !self.text.is_empty() {
             self.letter(between);
         }
     }
 
-    /// Writes one more item of a list that begins at `start`, behind a comma where it isn't the first.
+    /// Writes one more item of a list that begins at `start`, after a comma if it isn't the first.
     pub fn item(&mut self, start: usize, item: &str) {
         if self.text.len() > start {
             self.letter(',');
@@ -234,14 +234,14 @@ impl<'l> Case<'l> {
         self.text(item);
     }
 
-    /// Writes `-` where the list that begins at `start` is empty.
+    /// Writes `-` if the list that begins at `start` is empty.
     pub fn end_list(&mut self, start: usize) {
         if self.text.len() == start {
             self.letter('-');
         }
     }
 
-    /// Adds the answer and a line feed to the answers: what was written, or what stands for it where there was trouble.
+    /// Adds the answer and a line feed to the answers: what was written, or the word for the trouble if there was any.
     pub fn end(&self, answers: &mut String) -> Result<(), AllocError> {
         let text = match self.trouble {
             None => self.as_str(),

@@ -11,7 +11,7 @@ pub struct Edited {
     bytes: Vec<u8>,
 }
 
-/// What stands before the first such part of the bytes, and what stands behind it.
+/// What stands before the first such part of the bytes, and what stands after it.
 fn around<'b>(bytes: &'b [u8], part: &[u8]) -> Result<(&'b [u8], &'b [u8]), Trouble> {
     for at in 0..bytes.len() {
         let (before, rest) = bytes.split_at(at);
@@ -22,7 +22,7 @@ fn around<'b>(bytes: &'b [u8], part: &[u8]) -> Result<(&'b [u8], &'b [u8]), Trou
     Err(Trouble::NoCase)
 }
 
-/// Adds the bytes with the new part in the place of each old one, or of so many.
+/// Adds the bytes with the new part in place of each old one, or of the first `most` of them.
 fn add_replaced(
     out: &mut Vec<u8>,
     bytes: &[u8],
@@ -43,7 +43,7 @@ fn add_replaced(
 }
 
 impl Edited {
-    /// No text.
+    /// Makes an edited text that is empty.
     pub fn new(alloc: Global) -> Edited {
         Edited {
             alloc,
@@ -62,7 +62,7 @@ impl Edited {
         Ok(())
     }
 
-    /// Puts other bytes in the place of those that stand before ` => `, as often as they are there, or so many times.
+    /// Puts other bytes in place of those that stand before ` => `: all of them, or the first `most`.
     fn replace(&mut self, parts: &str, most: usize) -> Result<(), Trouble> {
         let Some((old, new)) = parts.split_once(" => ") else {
             return Err(Trouble::BadLine);
@@ -76,8 +76,8 @@ impl Edited {
         Ok(())
     }
 
-    /// Edits the text, and tells whether the line does: `drop COUNT` drops bytes at the end, `cut BYTES` keeps what stands before the
-    /// first such bytes, `replace BYTES => BYTES` replaces the first such bytes, and `all BYTES => BYTES` all of them.
+    /// Edits the text if the line is an edit, and answers whether it is: `drop COUNT` drops bytes at the end, `cut BYTES` keeps what stands
+    /// before the first such bytes, `replace BYTES => BYTES` replaces the first such bytes, and `all BYTES => BYTES` all of them.
     pub fn edit(&mut self, line: &str) -> Result<bool, Trouble> {
         let Ok((word, rest)) = pair_of(line, ' ') else {
             return Ok(false);
@@ -100,7 +100,7 @@ impl Edited {
         Ok(true)
     }
 
-    /// Takes the text, and puts these bytes behind it.
+    /// Takes the text, and adds these bytes to its end.
     pub fn input(&mut self, behind: &str) -> Result<Vec<u8>, Trouble> {
         let behind = decoded(self.alloc, behind)?;
         self.bytes.extend_from_slice(&behind)?;

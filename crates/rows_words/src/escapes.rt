@@ -3,7 +3,7 @@ use super::trouble::Trouble;
 use super::words::{number, pair_of};
 use std::alloc::Global;
 
-/// The byte that a name of one stands for: `n` is LF, `r` CR, `t` a tab, `s` a space, and `0` the byte 0. All else is itself.
+/// The byte of a name: `n` is LF, `r` CR, `t` a tab, `s` a space, and `0` the byte 0. Any other name is its own byte.
 fn named(name: &str) -> Result<u8, Trouble> {
     match name.as_bytes() {
         [b'n', ..] => Ok(b'\n'),
@@ -16,7 +16,7 @@ fn named(name: &str) -> Result<u8, Trouble> {
     }
 }
 
-/// What an escape stands for, a byte and how often, and the text that follows it. `{COUNT BYTE}` is so many bytes, `xHH` the byte of two
+/// What an escape stands for, a byte and how often, and the text after it. `{COUNT BYTE}` is COUNT such bytes, `xHH` the byte of two
 /// hexadecimal digits, and any other sign the name of a byte.
 fn escape_of(text: &str) -> Result<(usize, u8, &str), Trouble> {
     if let Some(inside) = text.strip_prefix('{') {
@@ -50,7 +50,7 @@ pub fn decoded(alloc: Global, text: &str) -> Result<Vec<u8>, Trouble> {
     Ok(out)
 }
 
-/// Writes the bytes as a text, with an escape for each that is no printable letter.
+/// Writes the bytes as a text, with an escape for each byte that isn't a printable character.
 pub fn write_bytes(case: &mut Case<'_>, bytes: &[u8]) {
     for byte in bytes {
         match byte {

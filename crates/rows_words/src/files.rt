@@ -3,7 +3,7 @@ ghost use Rattle.std.specs.Prelude.{◌≡◌, ◌↔◌, None};
 use std::alloc::AllocError;
 use std::fs;
 
-/// The first line in which a text and that of a file differ: its number, from 1, and how it stands in each, if it does.
+/// The first line in which a text and that of a file differ: its number, from 1, and the line in each, if there is one.
 #[derive(Clone, Copy)]
 struct Other<'t> {
     number: usize,
@@ -11,7 +11,7 @@ struct Other<'t> {
     wanted: Option<&'t str>,
 }
 
-/// The first line in which a text and that of a file differ, and none exactly where they are the same.
+/// The first line in which a text and that of a file differ. It is `None` exactly if they are the same.
 fn first_other<'t>(text: &'t str, file: &'t str) -> Option<Other<'t>>
     ensures { (result ≡ None) ↔ (text.now ≡ file.now) }
 {
@@ -39,7 +39,7 @@ fn first_other<'t>(text: &'t str, file: &'t str) -> Option<Other<'t>>
     })
 }
 
-/// Writes a line between quotes, or that there is none.
+/// Writes a line between quotes, or that there is no such line.
 fn push_line(line: Option<&str>, answers: &mut String) -> Result<(), AllocError> {
     match line {
         Some(line) => write!(answers, "{line:?}"),
@@ -47,7 +47,7 @@ fn push_line(line: Option<&str>, answers: &mut String) -> Result<(), AllocError>
     }
 }
 
-/// Adds how a text stands to that of a file: `same`, the first line that differs, or that the file can't be read.
+/// Adds how a text compares with that of a file: `same`, the first line that differs, or that the file can't be read.
 pub fn add_held(
     rt: &HostRuntime,
     file: &str,

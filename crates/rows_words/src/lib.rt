@@ -1,6 +1,6 @@
-//! What the crates of rows share: the words of their lines, the answers that they write, bytes that are written with escapes, texts
-//! that stand in files, sources and sinks that fail, a text that lines edit, and why a line has no answer. What these do is seen in the
-//! stored runs of `rows` and `rows_calls`.
+//! What the crates of rows share: the words of their lines, the answers that they write, bytes that are written with escapes, texts of
+//! files, sources and sinks that fail, a text that lines edit, and why a line has no answer. The stored runs of `rows` and `rows_calls`
+//! show what these do.
 #![tactic(auto)]
 
 mod case;

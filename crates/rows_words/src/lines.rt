@@ -1,18 +1,17 @@
 use std::alloc::AllocError;
 
-/// What answers lines, each by what the lines before it left.
+/// Something that answers lines. The lines before a line may change its answer.
 pub trait Answering<'l> {
     /// Adds the answer to a line, and a line feed.
     fn answer_line(&mut self, line: &'l str, answers: &mut String) -> Result<(), AllocError>;
 }
 
-/// Adds a line.
 pub(crate) fn push_line(line: &str, answers: &mut String) -> Result<(), AllocError> {
     answers.push_str(line)?;
     answers.push('\n')
 }
 
-/// Adds the answers to the lines. One that begins with `#` goes through unchanged.
+/// Adds the answers to the lines. A line that begins with `#` is copied.
 pub fn answer_lines<'l, A: Answering<'l>>(
     answering: &mut A,
     lines: &'l str,

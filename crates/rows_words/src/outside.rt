@@ -4,7 +4,7 @@ use super::trouble::Trouble;
 use meta_text::{MemorySink, MemorySource};
 use std::alloc::Global;
 
-/// How the source and the sink of a run behave: the bytes that each call may give or take, the call that fails, 0 for none, and the
+/// How the source and the sink of a run behave: the bytes that each call may give or take, the number of the call that fails, or 0, and the
 /// room of the sink.
 #[derive(Clone, Copy)]
 pub struct Outside {
@@ -16,7 +16,7 @@ pub struct Outside {
 }
 
 impl Outside {
-    /// Nothing fails, and there is room for so many bytes.
+    /// A source and a sink that never fail, with this room.
     pub fn with_room(room: usize) -> Outside {
         Outside {
             source_step: 5_000,
@@ -27,20 +27,20 @@ impl Outside {
         }
     }
 
-    /// Takes how the source behaves: `STEP FAIL`.
+    /// Takes the words on the source: `STEP FAIL`.
     pub fn take_source(&mut self, case: &mut Case<'_>) {
         self.source_step = case.number();
         self.failing_read = case.number();
     }
 
-    /// Takes how the sink behaves: `ROOM STEP FAIL`.
+    /// Takes the words on the sink: `ROOM STEP FAIL`.
     pub fn take_sink(&mut self, case: &mut Case<'_>) {
         self.room = case.number();
         self.sink_step = case.number();
         self.failing_write = case.number();
     }
 
-    /// A source of the bytes.
+    /// Makes a source of these bytes.
     pub fn source(self, alloc: Global, input: &[u8]) -> Result<MemorySource, Trouble> {
         if self.source_step == 0 {
             return Err(Trouble::NoCase);
@@ -49,7 +49,7 @@ impl Outside {
         Ok(MemorySource::new(input.to_vec(alloc)?, self.source_step, fails))
     }
 
-    /// A sink.
+    /// Makes a sink.
     pub fn sink(self, alloc: Global) -> Result<MemorySink, Trouble> {
         if self.sink_step == 0 {
             return Err(Trouble::NoCase);
@@ -59,7 +59,7 @@ impl Outside {
     }
 }
 
-/// Writes how a run ended: its status, and what its sink took, `-` for nothing.
+/// Writes how a run ended: its status, and what its sink took, `-` if that is nothing.
 pub fn write_ended(case: &mut Case<'_>, code: u8, taken: &[u8]) {
     case.shown(&code);
     case.letter(' ');

@@ -5,9 +5,9 @@ use std::num::ParseIntError;
 /// Why a line has no answer of its own.
 #[derive(Clone, Copy)]
 pub enum Trouble {
-    /// It asks nothing.
+    /// The line asks nothing.
     BadLine,
-    /// What it asks can't be asked.
+    /// What the line asks can't be asked.
     NoCase,
     /// Two calls that have to agree don't.
     Differ,

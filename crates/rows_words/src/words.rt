@@ -9,7 +9,7 @@ use std::alloc::{AllocError, Global};
 use std::hash::{DefaultHasher, Hash, Hasher};
 use std::str::FromStr;
 
-/// What the word stands for in the table: what stands in its last row.
+/// What the word stands for in the table, by the last row that has it. `BadLine` if no row has it.
 pub fn named<'t, T>(table: &'t [(&str, T)], word: &str) -> Result<&'t T, Trouble> {
     for row in table.iter().rev() {
         if row.0 == word {
@@ -19,7 +19,7 @@ pub fn named<'t, T>(table: &'t [(&str, T)], word: &str) -> Result<&'t T, Trouble
     Err(Trouble::BadLine)
 }
 
-/// The same, of what can be copied.
+/// The same for a table of what can be copied.
 pub fn found<T: Copy>(table: &[(&str, T)], word: &str) -> Result<T, Trouble> {
     match named(table, word) {
         Ok(meaning) => Ok(*meaning),
@@ -27,7 +27,7 @@ pub fn found<T: Copy>(table: &[(&str, T)], word: &str) -> Result<T, Trouble> {
     }
 }
 
-/// The number that the word is.
+/// The word as a number. `BadLine` if it is no such number.
 pub fn number<N: FromStr + Drop>(word: &str) -> Result<N, Trouble>
 where
     N::Err: Drop,
@@ -39,7 +39,7 @@ where
     }
 }
 
-/// What stands before the first such character, and what stands behind it.
+/// What stands before the first such character, and what stands after it. `BadLine` if there is no such character.
 pub fn pair_of(words: &str, between: char) -> Result<(&str, &str), Trouble> {
     match words.split_once(between) {
         Some(pair) => Ok(pair),
@@ -47,7 +47,7 @@ pub fn pair_of(words: &str, between: char) -> Result<(&str, &str), Trouble> {
     }
 }
 
-/// The numbers of a list, which are parted by commas. The word for none is no number.
+/// The numbers of a list, which are separated by commas. The text `none` is the empty list.
 pub fn numbers_of<N: FromStr + Drop>(
     alloc: Global,
     list: &str,
@@ -65,7 +65,7 @@ where
     Ok(numbers)
 }
 
-/// The items of a list, which are parted by commas, as texts. The word for none is no item.
+/// The items of a list, which are separated by commas, as texts. The text `none` is the empty list.
 pub fn texts_of(alloc: Global, list: &str, none: &str) -> Result<Vec<Text>, AllocError> {
     if list == none {
         return Ok(Vec::new(alloc));
@@ -74,7 +74,7 @@ pub fn texts_of(alloc: Global, list: &str, none: &str) -> Result<Vec<Text>, Allo
     texts_of_words(alloc, &items)
 }
 
-/// Words, a text each.
+/// Words as texts.
 pub fn texts_of_words(alloc: Global, words: &[&str]) -> Result<Vec<Text>, AllocError> {
     let mut texts = Vec::new(alloc);
     for word in words {

@@ -74,8 +74,7 @@ impl Write for Writes<'_> {
     }
 }
 
-/// The call whose write fails, the call whose flush fails, how many bytes are written, whether all are, and how many were
-/// flushed.
+/// The call whose write fails, the call whose flush fails, how many bytes are written, whether all are written, and how many were flushed.
 const WRITES: [(u64, u64, usize, Result<(), WriteError>, usize); 7] = [
     (0, 0, 0, Ok(()), 0),
     (1, 1, 0, Ok(()), 0),

@@ -15,8 +15,7 @@ enum CopyError {
     Write(WriteError),
 }
 
-/// Copies a whole input: at a source and a sink that tell their bytes and have no fault, all is
-/// copied unless memory is missing.
+/// Copies a whole input. With a source and a sink whose bytes contracts see, and no fault, all is copied unless memory runs out.
 fn copy<S: Source, K: Sink>(alloc: Global, source: &mut S, sink: &mut K) -> Result<(), CopyError>
     ensures copied { (input taken : List ℕ) → S.left source.old ≡ Some input → length input ≤ 1048576 →
         K.taken sink.old ≡ Some taken → ¬ Rose (S.faults source.old) (S.faults source.new) →

@@ -5,8 +5,7 @@ use std::io;
 use std::io::Read;
 use std::test::Fail;
 
-/// A reader that counts its calls, and ends or gives an error at one of them. Each other call gives four bytes, those behind the end
-/// too.
+/// A reader that counts its calls, and ends or gives an error at one of them. Each other call gives four bytes, also after the end.
 #[derive(Drop)]
 struct Counts<'a> {
     calls: &'a Cell<u64>,

@@ -8,15 +8,15 @@ use std::test::Fail;
 // 39 bytes.
 const TEXT: &[u8] = b"accept iadd i32 i32 i32,i32\nsetting a\n\n";
 
-/// How many of the bytes go over in this many calls that don't fail.
+/// How many of the bytes are read or written in this many calls that don't fail.
 fn bytes_in(calls: usize, step: usize) -> usize
     ensures { result ≤ 39 }
 {
     calls.saturating_mul(step).min(39)
 }
 
-/// Whether a read by this step, where the call of this number fails, and then one of what is left, are as wanted. No call has
-/// the number 0.
+/// Whether a read by this step, in which the call of this number fails, and then a read of what is left, are as wanted. No call has the
+/// number 0.
 fn reads_twice(alloc: Global, step: usize, fail: usize, calls: usize) -> Result<bool, AllocError> {
     let fails = vec![in alloc; fail as u64]?;
     let mut source = MemorySource::new(TEXT.to_vec(alloc)?, step.max(1), fails);
@@ -45,7 +45,7 @@ fn each_read_fails_in_turn(rt: HostRuntime) -> Result<(), Fail> {
     Ok(())
 }
 
-/// Whether a write by this step, where the call of this number fails, is as wanted. No call has the number 0.
+/// Whether a write by this step, in which the call of this number fails, is as wanted. No call has the number 0.
 fn writes_once(alloc: Global, step: usize, fail: usize, calls: usize) -> Result<bool, AllocError> {
     let fails = vec![in alloc; fail as u64]?;
     let mut sink = MemorySink::new(alloc, TEXT.len(), step.max(1), fails)?;

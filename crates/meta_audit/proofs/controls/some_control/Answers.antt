@@ -4,7 +4,7 @@ use Rattle.meta_audit.proofs.Typed.{in_range, fitting_typed}
 use Rattle.meta_meaning.specs.Tables.{TableContents, ControlNumberFits}
 use Rattle.meta_audit.proofs.controls.some_control.Goals as goal
 
--- where neither none fits nor a number of a type, nothing does
+-- if neither `None` fits nor a number of a type, nothing does
 nothing_fits : (tables : TableContents) (offset : ℕ) → (ControlNumberFits tables offset None → ⊥)
     → ((n : ℕ) → 112 ≤ n → n < 384 → ControlNumberFits tables offset (Some n) → ⊥) → (c : Option ℕ) → ControlNumberFits tables offset c → ⊥
 nothing_fits tables offset none numbers None fits = none fits

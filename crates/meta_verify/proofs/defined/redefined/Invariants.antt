@@ -6,7 +6,8 @@ use Rattle.meta_verify.specs.Numbers.{typed_value_of}
 use Rattle.meta_verify.specs.Defined.{environment_of}
 use Rattle.meta_verify.proofs.defined.redefined.Given as goal
 
--- what is defined behind the results so far is what was before, and what was seen; the answer is that to what is left
+-- after the results so far, the values that were defined before and those that were seen are defined; the answer for all results is the
+-- answer for those that are left
 abbrev pub invariant-loop-r : goal.invariant-loop-r
 invariant-loop-r l = record {
   seen : (v : ℕ) → is_some (with_values (environment_of l.types) (map typed_value_of (take l.r-index l.results)) v)

@@ -1,4 +1,4 @@
--- The clauses on the bytes taken say nothing of a sink that tells none.
+-- A contract can't see the bytes that this sink took, so the clauses on them say nothing.
 use Rattle.std.proofs.Common.{refl}
 use Rattle.meta_text.proofs.Any.{any_wrote, any_write_failed}
 use Rattle.meta_text.proofs.std_sink.StdSinkSink.TheImpl.Goals as goal

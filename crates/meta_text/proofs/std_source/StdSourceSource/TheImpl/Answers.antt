@@ -1,4 +1,4 @@
--- The clauses on the bytes left say nothing of a source that tells none.
+-- A contract can't see the bytes that this source has left, so the clauses on them say nothing.
 use Rattle.std.proofs.Common.{refl}
 use Rattle.meta_text.proofs.Any.{any_got, any_end, any_read_failed}
 use Rattle.meta_text.proofs.std_source.StdSourceSource.TheImpl.Goals as goal
