@@ -11,6 +11,8 @@ use Rattle.meta_declared.specs.AllDeclared.{Declared, AreValidGroups}
 use Rattle.meta_declared.specs.BuiltDeclarations.{BuiltDeclarations, AreBuilt}
 use Rattle.meta_opcode_tables.specs.TablesOf.{AreTablesOf}
 use Rattle.meta_gen.specs.WholeTables.{WholeTables, AreTablesOfGroups, AreWholeTablesOf}
+use Rattle.meta_instructions_enums_text.specs.FormatsText.{formats_text}
+use Rattle.meta_instructions_enums_text.specs.DataText.{data_text}
 use Rattle.meta_builder_text.specs.BuilderText.{builder_text}
 use Rattle.meta_rust_text.specs.InstructionsText.{instructions_text}
 use Rattle.meta_items_described.specs.Described.{HaveSameTables, HaveSameTexts, AreBuiltAlike}
@@ -56,7 +58,7 @@ built_as b groups = record {
 }
 
 same_instructions : (b : BuiltDeclarations) (groups : List GroupDeclaration) → instructions_text b ≡ instructions_text (built_as b groups)
-unfolding instructions_text
+unfolding instructions_text formats_text data_text
 same_instructions b groups = refl
 
 same_builder : (b : BuiltDeclarations) (groups : List GroupDeclaration) → builder_text b ≡ builder_text (built_as b groups)
