@@ -66,8 +66,8 @@ module _ (one_tool : (t u : Tool) (words : List (List ℕ)) → AreToolWords t w
   -- what is asked over a file is no check
   no_check : (over : Over) (path : List ℕ) (names : Names) → IsNoCheck over → IsOver words over → AskOverFile words path (check_words names)
       → ⊥
-  no_check (of_over.Shared x) path names no g h = g.1 _ _ h
-  no_check (of_over.File p x) path names no g h = no names (one_file words _ _ _ _ g h).1
+  no_check (of_over.Shared x) path names none g h = g.1 _ _ h
+  no_check (of_over.File p x) path names none g h = none names (one_file words _ _ _ _ g h).1
 
   one_over : (a b : Over) → IsOver words a → IsOver words b → (path_of a ≡ path_of b) × (asked_of a ≡ asked_of b)
   one_over (of_over.Shared x) (of_over.Shared y) h g = (refl, h.0 ∙ sym g.0)

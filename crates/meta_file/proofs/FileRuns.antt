@@ -225,8 +225,8 @@ module _ {S K : Type 0} {left : S → Option (List ℕ)} {reads : S → ℕ} {ta
       record { declared = d; declares = declares; valid = valid; tool = tool; asked = asked; ran = ran }
 
 -- what was done for a tool was done for the words that ask for it
-module _ {F S K : Type 0} {file_left : F → Option (List ℕ)} {file_reads : F → ℕ} {left : S → Option (List ℕ)} {reads : S → ℕ}
-    {taken : K → Option (List ℕ)} {writes : K → ℕ} {Means : Tool → Type 0} {path : List ℕ} {f f' : F} {s s' : S} {k k' : K}
+module _ {F S K : Type 0} (file_left : F → Option (List ℕ)) (file_reads : F → ℕ) (left : S → Option (List ℕ)) (reads : S → ℕ)
+    (taken : K → Option (List ℕ)) (writes : K → ℕ) (Means : Tool → Type 0) (path : List ℕ) (f f' : F) (s s' : S) (k k' : K)
     (tool : Tool) (asked : Means tool) where
   pub did_for : (ending : FileEnding)
       → DidFile file_left file_reads left reads taken writes (λ (t : Tool). t ≡ tool) path f f' s s' k k' ending

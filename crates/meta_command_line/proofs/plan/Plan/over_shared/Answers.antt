@@ -1,4 +1,4 @@
-use Rattle.std.proofs.Common.{◌≡◌, ℕ, List, subst}
+use Rattle.std.proofs.Common.{ℕ, List, subst}
 use Rattle.meta_file.specs.Tool.{AreToolWords}
 use Rattle.meta_command_line.proofs.plan.Plan.over_shared.Goals as goal
 
