@@ -85,6 +85,17 @@ pub(crate) fn write_described(
     Ok(())
 }
 
+/// Writes whether declarations are described.
+pub(crate) fn write_are_described(
+    alloc: Global,
+    declarations: &Declarations,
+    case: &mut Case<'_>,
+) -> Result<(), Trouble> {
+    let built = built_of(alloc, declarations)?;
+    case.yes_or_no(write_description(alloc, &built)?.is_some());
+    Ok(())
+}
+
 /// Whether the items of a text describe what is built.
 fn do_items_describe(alloc: Global, built: &Built<'_>, text: &[u8]) -> Result<bool, Trouble> {
     match read_items(alloc, text) {

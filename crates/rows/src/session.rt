@@ -5,6 +5,7 @@ use super::each::Each;
 use super::loads::write_loads;
 use super::patched::patched;
 use super::unfailing::write_unfailing;
+use super::with_field::write_with_field;
 use meta_declared::Declarations;
 use rows_words::{Case, Edited, Outside, Trouble, decoded, number, texts_of_words};
 use std::alloc::{AllocError, Global};
@@ -34,7 +35,8 @@ const ROOM: usize = 1_048_576;
 /// the shared declarations whose source and sink never fail.
 ///
 /// `fronts` loads each front of the text of the file, and `changes BITS` the text with each byte changed. `described` describes the text,
-/// `describes` tells whether the input does, and `synths COUNT` describes the declarations that are made from numbers.
+/// `describes` tells whether the input does, and `synths COUNT` describes the declarations that are made from numbers. `field own` and
+/// `field other` tell whether declarations are described whose format has a field of values of a variable.
 ///
 /// `write` writes the input. `reread lines FROM TO`, `reread fronts FROM TO` and `reread changes FROM TO` read the fronts of the input that
 /// end there with a line, all of them, or it with each byte there changed, and tell how many are no tables, other ones, or those that are
@@ -323,6 +325,7 @@ impl<'d> Session<'d> {
                 write_synths(alloc, case);
                 Ok(())
             }
+            "field" => write_with_field(alloc, case),
             "reread" | "calls" | "fed" | "shortened" | "audited" | "generated" => {
                 self.ask_declared(word, case)
             }

@@ -1,4 +1,3 @@
-use super::foreign::write_with_field;
 use meta_declared::Declarations;
 use meta_items::{FormatItem, Item, Listed, write_items};
 use meta_items_declared::{DeclareError, declare};
@@ -16,11 +15,19 @@ fn items_of(alloc: Global, text: &[u8]) -> Result<Vec<Item>, Trouble> {
     }
 }
 
-/// What the items of a text declare, which may show a fault.
-pub(crate) fn declared(alloc: Global, text: &[u8]) -> Result<Declarations, Trouble> {
-    match declare(alloc, &items_of(alloc, text)?) {
+/// What items declare, which may show a fault.
+fn declared_by(alloc: Global, items: &[Item]) -> Result<Declarations, Trouble> {
+    match declare(alloc, items) {
         Ok(declarations) => Ok(declarations),
         Err(_) => Err(Trouble::NoCase),
+    }
+}
+
+/// The same of the items of a text.
+pub(crate) fn declared(alloc: Global, text: &[u8]) -> Result<Declarations, Trouble> {
+    match items_of(alloc, text) {
+        Ok(items) => declared_by(alloc, &items),
+        Err(trouble) => Err(trouble),
     }
 }
 
@@ -47,9 +54,31 @@ fn write_format(alloc: Global, word: Vec<u8>, case: &mut Case<'_>) {
     write_declared(alloc, &[item], case);
 }
 
+/// Writes the tokens of a text as canonical text.
+fn write_tokens_of(alloc: Global, text: &[u8], case: &mut Case<'_>) -> Result<(), Trouble> {
+    let read = tokens_of(alloc, text)?;
+    write_bytes(case, &write_tokens(alloc, &read.tokens)?);
+    Ok(())
+}
+
+/// Writes what a word asks of the items of a text.
+fn ask_items_of(
+    alloc: Global,
+    word: &str,
+    text: &[u8],
+    case: &mut Case<'_>,
+) -> Result<(), Trouble> {
+    match items_of(alloc, text) {
+        Ok(items) if word == "items" => write_bytes(case, &write_items(alloc, &items)?),
+        Ok(items) => write_declared(alloc, &items, case),
+        Err(trouble) => return Err(trouble),
+    }
+    Ok(())
+}
+
 /// Writes what a word asks of the text of a file, and tells whether it does: `tokens` and `items` what its tokens and its items are as
 /// canonical text, and `declares` how much its items declare, or which of them is wrong first. `format` asks the same of a format whose
-/// word is the text, and `field own` and `field other` whether declarations are described whose format has a field of values of a variable.
+/// word is the text.
 pub(crate) fn ask_items(
     alloc: Global,
     word: &str,
@@ -57,11 +86,9 @@ pub(crate) fn ask_items(
     case: &mut Case<'_>,
 ) -> Result<bool, Trouble> {
     match word {
-        "tokens" => write_bytes(case, &write_tokens(alloc, &tokens_of(alloc, text)?.tokens)?),
-        "items" => write_bytes(case, &write_items(alloc, &items_of(alloc, text)?)?),
-        "declares" => write_declared(alloc, &items_of(alloc, text)?, case),
+        "tokens" => write_tokens_of(alloc, text, case)?,
+        "items" | "declares" => ask_items_of(alloc, word, text, case)?,
         "format" => write_format(alloc, text.to_vec(alloc)?, case),
-        "field" => write_with_field(alloc, case)?,
         _ => return Ok(false),
     }
     Ok(true)

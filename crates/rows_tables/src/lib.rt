@@ -1,6 +1,6 @@
 //! Answers rows over tables. Lines make a file of declarations, and ask what `generate` makes of what it declares: what the tables hold,
 //! whether they are the same as others, what their parts make, and how a run ends. `session` has the words. What this does is seen in the
-//! stored run of `rows_calls`.
+//! stored run of `rows`.
 #![tactic(auto)]
 
 mod declared;

@@ -22,6 +22,18 @@ pub(crate) struct Session<'l> {
     outside: Outside,
 }
 
+/// Adds a line.
+fn add_line(file: &mut Vec<u8>, line: &str) -> Result<(), Trouble> {
+    file.extend_from_slice(line.as_bytes())?;
+    Ok(file.push(b'\n')?)
+}
+
+/// Adds the bytes that a text with escapes stands for.
+fn add_decoded(file: &mut Vec<u8>, alloc: Global, text: &str) -> Result<(), Trouble> {
+    let bytes = decoded(alloc, text)?;
+    Ok(file.extend_from_slice(&bytes)?)
+}
+
 /// Adds bytes, with a number for each `%`.
 fn add_numbered(file: &mut Vec<u8>, pattern: &[u8], number: &str) -> Result<(), AllocError> {
     for byte in pattern {
@@ -86,6 +98,14 @@ impl<'l> Session<'l> {
         }
     }
 
+    /// Begins a case.
+    fn begin(&mut self) {
+        self.file.clear();
+        self.astray = "";
+        self.tables = None;
+        self.outside = Outside::with_room(ROOM);
+    }
+
     /// Does what a line says, and tells whether it says anything. `new` begins a case. `| LINE` adds a line to the file, `with BYTES` adds
     /// bytes, `many COUNT BYTES` does so many times, and `apart COUNT` adds instructions whose sets no other has. `astray SORT` declares a
     /// preset that names what its group doesn't have, `keep` keeps the file for `same`, and `source STEP FAIL` and `sink ROOM STEP FAIL`
@@ -93,17 +113,9 @@ impl<'l> Session<'l> {
     fn make(&mut self, line: &'l str) -> Result<bool, Trouble> {
         let (word, rest) = line.split_once(' ').unwrap_or((line, ""));
         match word {
-            "new" => {
-                self.file.clear();
-                self.astray = "";
-                self.tables = None;
-                self.outside = Outside::with_room(ROOM);
-            }
-            "|" => {
-                self.file.extend_from_slice(rest.as_bytes())?;
-                self.file.push(b'\n')?;
-            }
-            "with" => self.file.extend_from_slice(&decoded(self.alloc, rest)?)?,
+            "new" => self.begin(),
+            "|" => add_line(&mut self.file, rest)?,
+            "with" => add_decoded(&mut self.file, self.alloc, rest)?,
             "many" => add_many(&mut self.file, self.alloc, rest)?,
             "apart" => add_apart(&mut self.file, self.alloc, number(rest)?)?,
             "astray" => self.astray = rest,

@@ -63,7 +63,7 @@ fn write_name(
 }
 
 /// What is built of declarations, which there has to be.
-pub(crate) fn built_of(alloc: Global, declarations: &Declarations) -> Result<Built<'_>, Trouble> {
+fn built_of(alloc: Global, declarations: &Declarations) -> Result<Built<'_>, Trouble> {
     match build_all(alloc, declarations) {
         Ok(built) => Ok(built),
         Err(_) => Err(Trouble::NoCase),

@@ -1,6 +1,3 @@
-//! Answers rows that only calls of a library can show. A line `%% SUBJECT` begins the lines of a subject, and goes through unchanged.
-#![tactic(auto)]
-
 use rows_insts::Subject;
 use std::alloc::{AllocError, Global};
 use std::io::{self, Write};
@@ -22,16 +19,14 @@ fn add_answers(
     }
 }
 
-/// Answers the subjects of the standard input on the standard output.
-fn main(rt: HostRuntime) -> io::Result<()> {
-    let input = io::read_to_string(rt.alloc(), rt.reader())?;
-    let subjects = input.as_str().strip_prefix("%% ").unwrap_or("none");
+/// Answers subjects, whose lines show what only calls of a library can. The line `%% SUBJECT` that begins each goes through unchanged.
+pub(crate) fn answer_subjects(rt: &HostRuntime, subjects: &str) -> io::Result<()> {
     for part in subjects.split("\n%% ") {
         let (subject, lines) = part.split_once('\n').unwrap_or((part, ""));
         let mut answers = String::new(rt.alloc());
         add_answers(rt.alloc(), subject, lines, &mut answers)?;
         println!(rt; "%% {subject}")?;
-        io::writer(&rt).write_all(answers.as_bytes())?;
+        io::writer(rt).write_all(answers.as_bytes())?;
     }
     Ok(())
 }
