@@ -5,3 +5,6 @@ mod BuiltOperands
 mod After
 mod Behind
 mod Some
+
+-- templates
+mod Templates

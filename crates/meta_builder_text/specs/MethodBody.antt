@@ -1,10 +1,10 @@
 -- The body of the method that builds an instruction.
 --     body_text vars c format     its lines
-use Rattle.std.specs.Prelude.{ℕ, zero, suc, ◌-◌, ◌==◌, ◌&&◌, List, [], ◌∷◌, ◌++◌, length, slice_get, Option, None, Some, option_and_then}
-use Rattle.std.specs.Prelude.{if◌then◌else◌, codes}
+use Rattle.std.specs.Prelude.{ℕ, zero, suc, ◌-◌, ◌==◌, ◌&&◌, Bool, List, [], ◌∷◌, ◌++◌, length, slice_get}
+use Rattle.std.specs.Prelude.{Option, None, Some, option_and_then, if◌then◌else◌, codes}
 use Rattle.std.specs.List.{flat_map}
 use Rattle.std.specs.Fmt.{decimal}
-use Rattle.meta_text.specs.Lines.{at, text_of}
+use Rattle.meta_text.specs.Lines.{at, lines_onto, text_of}
 use Rattle.meta_typevar.specs.declared.content.TypeVarContent.{TypeVarContent}
 use Rattle.meta_operands.specs.Operand.{is_varargs_operand, is_immediate_operand}
 use Rattle.meta_operands.specs.declared.operand.Operand.{Operand}
@@ -74,13 +74,6 @@ passed_control vars (Some info) = if info.use_typevar_operand then codes "ctrl_t
 
 -- ---- the list of values
 
--- the lines before the values are added
-unfoldable pub value_list_begin : List ℕ
-value_list_begin = text_of (
-    at 2 (codes "let mut vlist = ir::ValueList::default();" ∷ [])
-    ∷ at 2 (codes "{" ∷ [])
-    ∷ at 3 (codes "let pool = &mut self.data_flow_graph_mut().value_lists;" ∷ []) ∷ [])
-
 -- the line that adds a value
 unfoldable pub one_value_line : List ℕ → List ℕ
 one_value_line name = text_of (at 3 (codes "vlist.push(" ∷ name ∷ codes ", pool);" ∷ []) ∷ [])
@@ -93,13 +86,18 @@ more_values_line name = text_of (at 3 (codes "vlist.extend(" ∷ name ∷ codes 
 unfoldable pub added_text : Operand → List ℕ
 added_text o = if is_value_operand o then one_value_line o.name else (if is_varargs_operand o then more_values_line o.name else [])
 
--- the line behind them
-unfoldable pub value_list_end : List ℕ
-value_list_end = text_of (at 2 (codes "}" ∷ []) ∷ [])
+-- the list of the values
+unfoldable pub value_list_text : List Operand → List ℕ
+value_list_text inputs =
+    lines_onto (
+    at 2 (codes "let mut vlist = ir::ValueList::default();" ∷ [])
+    ∷ at 2 (codes "{" ∷ [])
+    ∷ at 3 (codes "let pool = &mut self.data_flow_graph_mut().value_lists;" ∷ []) ∷ [])
+    (flat_map added_text inputs ++ text_of (at 2 (codes "}" ∷ []) ∷ []))
 
--- the list of the values, where the format has one
-unfoldable pub value_list_text : List Operand → InstructionFormat → List ℕ
-value_list_text inputs format = if format.has_value_list then (value_list_begin ++ (flat_map added_text inputs ++ value_list_end)) else []
+-- the same, where the format has one
+abbrev pub value_list_of : Bool → List Operand → List ℕ
+value_list_of has_value_list inputs = if has_value_list then value_list_text inputs else []
 
 -- ---- the call of the format's constructor
 
@@ -169,6 +167,6 @@ body_text vars c format =
     ++ (flat_map mem_flags_of c.operands_in
     ++ (flat_map block_call_of c.operands_in
     ++ (control_text c.polymorphic_info (designated_name c (designated_place c format))
-    ++ (value_list_text c.operands_in format
+    ++ (value_list_of format.has_value_list c.operands_in
     ++ (call_text format.name c.camel_name (passed_control vars c.polymorphic_info) (passed_operands c format)
     ++ results_lines (length c.value_results))))))

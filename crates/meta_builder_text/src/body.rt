@@ -1,9 +1,7 @@
-ghost use Rattle.std.specs.Prelude.{◌≡◌, ◌++◌, OnOk, string_bytes};
+ghost use Rattle.std.specs.Prelude.{◌≡◌, ◌++◌, IfOk, OnOk, string_bytes};
 ghost use Rattle.std.specs.List.{flat_map};
-ghost use Rattle.meta_builder_text.specs.MethodBody.{conversion_text, conversion_of, mem_flags_text, mem_flags_of, block_call_text};
-ghost use Rattle.meta_builder_text.specs.MethodBody.{block_call_of, designated_name, designated_place, inferred_text, control_text};
-ghost use Rattle.meta_builder_text.specs.MethodBody.{value_list_begin, one_value_line, more_values_line, added_text, value_list_end};
-ghost use Rattle.meta_builder_text.specs.MethodBody.{value_list_text, body_text};
+ghost use Rattle.meta_builder_text.specs.MethodBody.{conversion_of, mem_flags_of, block_call_of, designated_name, designated_place};
+ghost use Rattle.meta_builder_text.specs.MethodBody.{control_text, added_text, value_list_of, body_text};
 
 use super::constructor_call::push_call;
 use super::operands::{is_converted, is_mem_flags};
@@ -11,27 +9,48 @@ use super::results::push_results;
 use meta_builder_constructors_text::operand_name;
 use meta_inst::{InstructionContent, PolymorphicInfo};
 use meta_operands::{InstructionFormat, Operand};
-use meta_rust_lines::push_text;
+use meta_rust_lines::fill;
 use meta_typevar::TypeVars;
 use std::alloc::{AllocError, Global};
 
-/// Adds the line that converts an argument of this name.
-#[tactic(auto, unfolding(crate::specs::MethodBody::conversion_text))]
-fn push_conversion_text(out: &mut String, name: &str) -> Result<(), AllocError>
-    ensures { OnOk result (string_bytes out.new ≡ string_bytes out.old ++ conversion_text name.now) }
-{
-    write!(out, "        let {name} = {name}.into();\n")
-}
+/// The line that converts an argument.
+const CONVERSION: &str = "        let $name$ = $name$.into();\n";
+
+/// The line that stores flags of a memory access.
+const MEM_FLAGS: &str =
+    "        let $name$ = self.data_flow_graph_mut().mem_flags.insert($name$).unwrap();\n";
+
+/// The line that makes one of a block and of what is passed to it.
+const BLOCK_CALL: &str = "        let $name$ = self.data_flow_graph_mut().block_call($name$_label, $name$_args);\n";
+
+/// The line that takes the control from an operand.
+const INFERRED: &str = "        let ctrl_typevar = self.data_flow_graph().value_type($name$);\n";
+
+/// The line that adds a value to the list of values, and that which adds a variable number of them.
+const ONE_VALUE: &str = "            vlist.push($name$, pool);\n";
+
+const MORE_VALUES: &str = "            vlist.extend($name$.iter().cloned(), pool);\n";
+
+const NAME_HOLES: [&str; 1] = ["name"];
+
+/// The list of the values.
+const VALUE_LIST: &str = "        let mut vlist = ir::ValueList::default();
+        {
+            let pool = &mut self.data_flow_graph_mut().value_lists;
+$added$        }
+";
+
+const VALUE_LIST_HOLES: [&str; 1] = ["added"];
 
 /// Adds the line that converts the argument for the operand, where it is converted.
-#[tactic(auto, unfolding(crate::specs::MethodBody::conversion_of))]
+#[tactic(auto, using(crate::proofs::Templates::conversion_same), unfolding(crate::specs::MethodBody::conversion_of))]
 fn push_conversion(out: &mut String, operand: &Operand) -> Result<(), AllocError>
     ensures { OnOk result (string_bytes out.new ≡ string_bytes out.old ++ conversion_of operand.now) }
 {
     if !is_converted(operand) {
         return Ok(());
     }
-    push_conversion_text(out, operand.name.as_str())
+    fill(out, CONVERSION, &NAME_HOLES, &[operand.name.as_str()])
 }
 
 /// Adds the lines that convert arguments.
@@ -44,24 +63,13 @@ fn push_conversions(out: &mut String, operands: &[Operand]) -> Result<(), AllocE
     Ok(())
 }
 
-/// Adds the line that stores flags of a memory access.
-#[tactic(auto, unfolding(crate::specs::MethodBody::mem_flags_text))]
-fn push_mem_flags_text(out: &mut String, name: &str) -> Result<(), AllocError>
-    ensures { OnOk result (string_bytes out.new ≡ string_bytes out.old ++ mem_flags_text name.now) }
-{
-    write!(
-        out,
-        "        let {name} = self.data_flow_graph_mut().mem_flags.insert({name}).unwrap();\n"
-    )
-}
-
 /// Adds the line that stores the operand, where it is flags of a memory access.
-#[tactic(auto, unfolding(crate::specs::MethodBody::mem_flags_of))]
+#[tactic(auto, using(crate::proofs::Templates::mem_flags_same), unfolding(crate::specs::MethodBody::mem_flags_of))]
 fn push_mem_flags(out: &mut String, operand: &Operand) -> Result<(), AllocError>
     ensures { OnOk result (string_bytes out.new ≡ string_bytes out.old ++ mem_flags_of operand.now) }
 {
     if is_mem_flags(operand) && operand.is_immediate() {
-        return push_mem_flags_text(out, operand.name.as_str());
+        return fill(out, MEM_FLAGS, &NAME_HOLES, &[operand.name.as_str()]);
     }
     Ok(())
 }
@@ -76,26 +84,15 @@ fn push_each_mem_flags(out: &mut String, operands: &[Operand]) -> Result<(), All
     Ok(())
 }
 
-/// Adds the line that makes one of a block of this name and of what is passed to it.
-#[tactic(auto, unfolding(crate::specs::MethodBody::block_call_text))]
-fn push_block_call_text(out: &mut String, name: &str) -> Result<(), AllocError>
-    ensures { OnOk result (string_bytes out.new ≡ string_bytes out.old ++ block_call_text name.now) }
-{
-    write!(
-        out,
-        "        let {name} = self.data_flow_graph_mut().block_call({name}_label, {name}_args);\n"
-    )
-}
-
-/// Adds the same line for the operand, where it is a block.
-#[tactic(auto, unfolding(crate::specs::MethodBody::block_call_of))]
+/// Adds the line that makes one of a block and of what is passed to it, where the operand is a block.
+#[tactic(auto, using(crate::proofs::Templates::block_call_same), unfolding(crate::specs::MethodBody::block_call_of))]
 fn push_block_call(out: &mut String, operand: &Operand) -> Result<(), AllocError>
     ensures { OnOk result (string_bytes out.new ≡ string_bytes out.old ++ block_call_of operand.now) }
 {
     if !operand.kind.is_block() {
         return Ok(());
     }
-    push_block_call_text(out, operand.name.as_str())
+    fill(out, BLOCK_CALL, &NAME_HOLES, &[operand.name.as_str()])
 }
 
 /// Adds the lines of the blocks.
@@ -126,19 +123,8 @@ fn designated_name<'a>(instruction: &'a InstructionContent, format: &Instruction
     }
 }
 
-/// Adds the line that takes the control from the operand of this name.
-#[tactic(auto, unfolding(crate::specs::MethodBody::inferred_text))]
-fn push_inferred(out: &mut String, name: &str) -> Result<(), AllocError>
-    ensures { OnOk result (string_bytes out.new ≡ string_bytes out.old ++ inferred_text name.now) }
-{
-    write!(
-        out,
-        "        let ctrl_typevar = self.data_flow_graph().value_type({name});\n"
-    )
-}
-
-/// Adds the same line for the designated operand, which has this name, where its type is the control.
-#[tactic(auto, unfolding(crate::specs::MethodBody::control_text))]
+/// Adds the line that takes the control from the designated operand, which has this name, where its type is the control.
+#[tactic(auto, using(crate::proofs::Templates::inferred_same), unfolding(crate::specs::MethodBody::control_text))]
 fn push_control(
     out: &mut String,
     info: Option<PolymorphicInfo>,
@@ -152,89 +138,49 @@ fn push_control(
     if !info.use_typevar_operand {
         return Ok(());
     }
-    push_inferred(out, name)
-}
-
-/// Adds the lines before the values are added.
-#[tactic(auto, unfolding(crate::specs::MethodBody::value_list_begin))]
-fn push_list_begin(out: &mut String) -> Result<(), AllocError>
-    ensures { OnOk result (string_bytes out.new ≡ string_bytes out.old ++ value_list_begin) }
-{
-    push_text(
-        out,
-        "        let mut vlist = ir::ValueList::default();
-        {
-            let pool = &mut self.data_flow_graph_mut().value_lists;
-",
-    )
-}
-
-/// Adds the line that adds a value.
-#[tactic(auto, unfolding(crate::specs::MethodBody::one_value_line))]
-fn push_one_value(out: &mut String, name: &str) -> Result<(), AllocError>
-    ensures { OnOk result (string_bytes out.new ≡ string_bytes out.old ++ one_value_line name.now) }
-{
-    write!(out, "            vlist.push({name}, pool);\n")
-}
-
-/// Adds the line that adds a variable number of values.
-#[tactic(auto, unfolding(crate::specs::MethodBody::more_values_line))]
-fn push_more_values(out: &mut String, name: &str) -> Result<(), AllocError>
-    ensures { OnOk result (string_bytes out.new ≡ string_bytes out.old ++ more_values_line name.now) }
-{
-    write!(
-        out,
-        "            vlist.extend({name}.iter().cloned(), pool);\n"
-    )
+    fill(out, INFERRED, &NAME_HOLES, &[name])
 }
 
 /// Adds the line that adds the operand to the list, where it is one value or a variable number.
-#[tactic(auto, unfolding(crate::specs::MethodBody::added_text))]
+#[tactic(auto, using(crate::proofs::Templates::added_steps), unfolding(crate::specs::MethodBody::added_text))]
 fn push_added(out: &mut String, operand: &Operand) -> Result<(), AllocError>
     ensures { OnOk result (string_bytes out.new ≡ string_bytes out.old ++ added_text operand.now) }
 {
     if operand.is_value() {
-        return push_one_value(out, operand.name.as_str());
+        return fill(out, ONE_VALUE, &NAME_HOLES, &[operand.name.as_str()]);
     }
     if operand.is_varargs() {
-        return push_more_values(out, operand.name.as_str());
+        return fill(out, MORE_VALUES, &NAME_HOLES, &[operand.name.as_str()]);
     }
     Ok(())
 }
 
-/// Adds the lines that add the values to the list.
-fn push_each_added(out: &mut String, operands: &[Operand]) -> Result<(), AllocError>
-    ensures { OnOk result (string_bytes out.new ≡ string_bytes out.old ++ flat_map added_text operands.now) }
+/// The lines that add the values to the list.
+fn each_added(alloc: Global, operands: &[Operand]) -> Result<String, AllocError>
+    ensures { IfOk result (λ text. string_bytes text ≡ flat_map added_text operands.now) }
 {
+    let mut text = String::new(alloc);
     for operand in operands {
-        push_added(out, operand)?;
+        push_added(&mut text, operand)?;
     }
-    Ok(())
-}
-
-/// Adds the line behind them.
-#[tactic(auto, unfolding(crate::specs::MethodBody::value_list_end))]
-fn push_list_end(out: &mut String) -> Result<(), AllocError>
-    ensures { OnOk result (string_bytes out.new ≡ string_bytes out.old ++ value_list_end) }
-{
-    push_text(out, "        }\n")
+    Ok(text)
 }
 
 /// Adds the list of the values, where the format has one.
-#[tactic(auto, unfolding(crate::specs::MethodBody::value_list_text))]
+#[tactic(auto, using(crate::proofs::Templates::value_list_same))]
 fn push_list(
+    alloc: Global,
     out: &mut String,
     inputs: &[Operand],
     format: &InstructionFormat,
 ) -> Result<(), AllocError>
-    ensures { OnOk result (string_bytes out.new ≡ string_bytes out.old ++ value_list_text inputs.now format.now) }
+    ensures { OnOk result (string_bytes out.new ≡ string_bytes out.old ++ value_list_of format.now.has_value_list inputs.now) }
 {
     if !format.has_value_list {
         return Ok(());
     }
-    push_list_begin(out)?;
-    push_each_added(out, inputs)?;
-    push_list_end(out)
+    let added = each_added(alloc, inputs)?;
+    fill(out, VALUE_LIST, &VALUE_LIST_HOLES, &[added.as_str()])
 }
 
 /// Adds the body of the method that builds the instruction, which is of this format.
@@ -254,7 +200,7 @@ pub(crate) fn push_body(
     push_block_calls(out, inputs)?;
     let designated = designated_name(instruction, format);
     push_control(out, instruction.polymorphic_info(), designated)?;
-    push_list(out, inputs, format)?;
+    push_list(alloc, out, inputs, format)?;
     push_call(alloc, out, vars, instruction, format)?;
     push_results(alloc, out, instruction.value_results().len())
 }

@@ -2,28 +2,32 @@ ghost use Rattle.std.specs.Prelude.{◌≡◌, ◌++◌, ◌<◌, ℕ, Some, IfO
 ghost use Rattle.std.specs.List.{flat_map};
 ghost use Rattle.meta_operands.specs.Operand.{variable_of, variables_of};
 ghost use Rattle.meta_inst.specs.Operands.{AreOf};
-ghost use Rattle.meta_builder_text.specs.MethodDocs.{control_line, control_doc, block_docs, raw_block_doc, operand_line, docs_of_input};
-ghost use Rattle.meta_builder_text.specs.MethodDocs.{inputs_docs, outputs_docs, titled, method_docs};
+ghost use Rattle.meta_builder_text.specs.MethodDocs.{control_doc, raw_block_doc, operand_line, docs_of_input, inputs_docs, outputs_docs};
+ghost use Rattle.meta_builder_text.specs.MethodDocs.{titled, method_docs};
 
 use super::arguments::asked_control;
 use super::operands::{operand_doc, variable_doc, variable_name};
 use meta_builder_constructors_text::{first_line, push_doc_heading, push_doc_item, push_doc_line};
 use meta_inst::InstructionContent;
 use meta_operands::Operand;
-use meta_rust_lines::push_text;
+use meta_rust_lines::{fill, push_text};
 use meta_typevar::{TypeVar, TypeVars};
 use std::alloc::{AllocError, Global};
 
-/// Adds the line on a control of this name.
-#[tactic(auto, unfolding(crate::specs::MethodDocs::control_line))]
-fn push_control_line(out: &mut String, name: &str, doc: &str) -> Result<(), AllocError>
-    ensures { OnOk result (string_bytes out.new ≡ string_bytes out.old ++ control_line name.now doc.now) }
-{
-    write!(out, "    /// - {name} (controlling type variable): {doc}\n")
-}
+/// The line on a control.
+const CONTROL: &str = "    /// - $name$ (controlling type variable): $doc$\n";
+
+const CONTROL_HOLES: [&str; 2] = ["name", "doc"];
+
+/// The lines on a block and on what is passed to it.
+const BLOCK: &str = "    /// - $name$_label: Destination basic block
+    /// - $name$_args: Block arguments
+";
+
+const BLOCK_HOLES: [&str; 1] = ["name"];
 
 /// Adds the line on the control, where it is an argument.
-#[tactic(auto, unfolding(crate::specs::MethodDocs::control_doc))]
+#[tactic(auto, using(crate::proofs::Templates::control_line_same), unfolding(crate::specs::MethodDocs::control_doc))]
 fn push_control_doc(
     out: &mut String,
     vars: &TypeVars,
@@ -32,22 +36,16 @@ fn push_control_doc(
     ensures { OnOk result (string_bytes out.new ≡ string_bytes out.old ++ control_doc vars.now control) }
 {
     match control {
-        Some(tv) => push_control_line(out, variable_name(vars, tv), variable_doc(vars, tv)),
+        Some(tv) => {
+            fill(
+                out,
+                CONTROL,
+                &CONTROL_HOLES,
+                &[variable_name(vars, tv), variable_doc(vars, tv)],
+            )
+        }
         None => Ok(()),
     }
-}
-
-/// Adds the lines on a block of this name and on what is passed to it.
-#[tactic(auto, unfolding(crate::specs::MethodDocs::block_docs))]
-fn push_block_docs(out: &mut String, name: &str) -> Result<(), AllocError>
-    ensures { OnOk result (string_bytes out.new ≡ string_bytes out.old ++ block_docs name.now) }
-{
-    write!(
-        out,
-        "    /// - {name}_label: Destination basic block
-    /// - {name}_args: Block arguments
-"
-    )
 }
 
 /// Adds the line on a block without arguments.
@@ -67,13 +65,13 @@ fn push_operand_line(out: &mut String, vars: &TypeVars, operand: &Operand) -> Re
 }
 
 /// Adds the lines on the arguments for an input.
-#[tactic(auto, unfolding(crate::specs::MethodDocs::docs_of_input))]
+#[tactic(auto, using(crate::proofs::Templates::block_docs_same), unfolding(crate::specs::MethodDocs::docs_of_input))]
 fn push_input_docs(out: &mut String, vars: &TypeVars, operand: &Operand) -> Result<(), AllocError>
     requires { (tv : ℕ) → variable_of operand.now ≡ Some tv → tv < length vars.now }
     ensures { OnOk result (string_bytes out.new ≡ string_bytes out.old ++ docs_of_input vars.now operand.now) }
 {
     if operand.kind.is_block() {
-        return push_block_docs(out, operand.name.as_str());
+        return fill(out, BLOCK, &BLOCK_HOLES, &[operand.name.as_str()]);
     }
     if operand.kind.is_raw_block() {
         return push_raw_block_doc(out);
