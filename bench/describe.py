@@ -62,6 +62,8 @@ class Maker:
         parts = self.some.sample(sorted(SPANS), self.some.randint(1, 4))
         if "ints" not in parts and "floats" not in parts:
             parts.append("ints")
+        if "dynamic" in parts and "lanes" not in parts:
+            parts.append("lanes")
         return ", ".join(f"{it} {self.span(SPANS[it])}" for it in parts)
 
     def types(self):

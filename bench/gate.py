@@ -165,7 +165,7 @@ def run(folder):
     kit = subprocess.run(["rt", "version"], capture_output=True, text=True).stdout.strip()
     print(f"\n{len(os.sched_getaffinity(0))} processors, {kit}")
     print(f"the gate, with runs and what rt does itself: {gate.seconds / 60:.1f} processor minutes, {of_gate:.1f} wall minutes")
-    print(f"what ./test does behind it: {total - gate.seconds / 60:.1f} processor minutes, {wall - of_gate:.1f} wall minutes")
+    print(f"what ./test does after it: {total - gate.seconds / 60:.1f} processor minutes, {wall - of_gate:.1f} wall minutes")
     length, names = longest_chain(below, lambda name: gate.wall(name, "proof"))
     print(f"longest chain of proofs: {length:.1f} wall minutes: {', '.join(names)}")
     unseen = [name for name in below if (name, "proof") not in gate.spans]

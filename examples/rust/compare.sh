@@ -24,7 +24,7 @@ stored_lines() {
     cat "$top"/crates/rows/data/toy.in "$top"/examples/*.txt
     {
         sed -n 's/^> //p' "$top"/crates/rows/stdin
-        awk '{ gsub(/\\r|\\n/, "\n"); print }' "$top"/crates/rows/stdin "$top"/crates/rows_calls/stdin
+        awk '{ gsub(/\\r|\\n/, "\n"); print }' "$top"/crates/rows/stdin
     } | grep -E '^(accept|infer|setting) '
 }
 

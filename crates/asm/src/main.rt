@@ -2,7 +2,7 @@
 #![tactic(auto)]
 
 use meta_asm::asm;
-use meta_main::{CommandForm, Manual, Program, start};
+use meta_command_line::{CommandForm, Manual, Program, start};
 use meta_run::Ending;
 use meta_shared_ops::define;
 use meta_text::{Sink, Source};

@@ -2,7 +2,7 @@
 #![tactic(auto)]
 
 use meta_audit::audit_run;
-use meta_main::{Manual, Program, start};
+use meta_command_line::{Manual, Program, start};
 use meta_run::Ending;
 use meta_shared_ops::define;
 use meta_text::{Sink, Source};

@@ -1,5 +1,5 @@
-use meta_file::COMMANDS;
-use meta_main::Manual;
+use meta_command_line::Manual;
+use meta_program::COMMANDS;
 
 const HELP: &str = "\
 Answers by the declarations of an instruction set: those of Cranelift's shared instructions and settings, or those of a file.

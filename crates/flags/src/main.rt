@@ -1,8 +1,8 @@
 //! Answers the lines of standard input by the shared settings.
 #![tactic(auto)]
 
+use meta_command_line::{Manual, Program, start};
 use meta_flags::flags;
-use meta_main::{Manual, Program, start};
 use meta_run::Ending;
 use meta_shared_ops::define;
 use meta_text::{Sink, Source};

@@ -8,12 +8,12 @@ use Rattle.std.proofs.lemmas.List.Elements.{All-nil, All-cons, All-head, All-tai
 use Rattle.meta_types.specs.Name.{IsNameByte, IsName}
 use Rattle.meta_inst.specs.InstructionSet.{InstructionSet}
 use Rattle.meta_inst.specs.Faults.{IsValid}
-use Rattle.meta_meaning.specs.Tables.{TableContents, at_opcode}
-use Rattle.meta_opcode_tables.specs.WellFormed.{IsWellFormedOpcodes}
+use Rattle.meta_inst.specs.Tables.{TableContents, at_opcode}
+use Rattle.meta_gen.specs.WellFormedOpcodes.{IsWellFormedOpcodes}
 use Rattle.meta_lists.proofs.Everywhere.{at_place}
-use Rattle.meta_words.specs.Lines.{lines_of, lines_of_pieces}
-use Rattle.meta_words.specs.Words.{pieces_of}
-use Rattle.meta_words.proofs.PieceLemmas.{slice_split_cons, first_piece}
+use Rattle.meta_lines.specs.Lines.{lines_of, lines_of_pieces}
+use Rattle.meta_lines.specs.Words.{pieces_of}
+use Rattle.meta_lines.proofs.PieceLemmas.{slice_split_cons, first_piece}
 use Rattle.meta_gen.specs.Reply.{AllowedReply, AcceptedReply}
 use Rattle.meta_verify.specs.Statement.{TypedValue, Application, Statement, OfParameter, OfApplication, IsTyped, CanApply, value_text}
 use Rattle.meta_verify.specs.Statement.{defined_by}
@@ -21,14 +21,14 @@ use Rattle.meta_verify.specs.Environment.{Environment, nothing_defined, with_val
 use Rattle.meta_verify.specs.Wrong.{Replies, IsAccepted, IsRight}
 use Rattle.meta_verify.proofs.StatementLemmas.{one_statement}
 use Rattle.meta_types.specs.TypeParts.{name_of}
-use Rattle.meta_short.specs.Short.{Manner, short_results, short_result_text, joined, behind, control_written, values_written, results_part}
-use Rattle.meta_short.specs.Short.{parameter_text, short_application, short_text}
-use Rattle.meta_short.specs.Manners.{IsMannerIn, IsMannerDeclared}
-use Rattle.meta_short.specs.Reading.{Manners, IsShort}
-use Rattle.meta_short.proofs.SplitLemmas.{Lacks, lacks_joined}
-use Rattle.meta_short.proofs.ShortLemmas.{IsMark, value_lacks, type_lacks, short_lacks, control_lacks, values_lack}
-use Rattle.meta_short.proofs.OneLine.{all_name_bytes, one_line}
-use Rattle.meta_short.proofs.DeclaredLine.{asked_name, one_line_declared}
+use Rattle.meta_asm.specs.Short.{Manner, short_results, short_result_text, joined, behind, control_written, values_written, results_part}
+use Rattle.meta_asm.specs.Short.{parameter_text, short_application, short_text}
+use Rattle.meta_asm.specs.Manners.{IsMannerIn, IsMannerDeclared}
+use Rattle.meta_asm.specs.Reading.{Manners, IsShort}
+use Rattle.meta_asm.proofs.SplitLemmas.{Lacks, lacks_joined}
+use Rattle.meta_asm.proofs.ShortLemmas.{IsMark, value_lacks, type_lacks, short_lacks, control_lacks, values_lack}
+use Rattle.meta_asm.proofs.OneLine.{all_name_bytes, one_line}
+use Rattle.meta_asm.proofs.DeclaredLine.{asked_name, one_line_declared}
 use Rattle.meta_asm.specs.Listing.{text_of_lines, filled, AreShort, IsShortened, IsSpelled}
 use Rattle.meta_asm.proofs.ListingLemmas.{has_text}
 use Rattle.meta_asm.proofs.OneOutput.{one_reading, reads_all}

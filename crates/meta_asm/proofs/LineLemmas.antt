@@ -7,16 +7,16 @@ use Rattle.std.proofs.lemmas.Bool.{cases_order}
 use Rattle.std.proofs.lemmas.List.Elements.{All-nil, All-cons, All-head, All-tail, All-append, All-map, All-weaker}
 use Rattle.meta_types.specs.TypeParts.{TypeParts, IsType, name_of}
 use Rattle.meta_types.specs.Name.{IsNameByte}
-use Rattle.meta_words.specs.Words.{AreWords, pieces_of}
-use Rattle.meta_words.specs.Control.{control_text, IsBehind}
-use Rattle.meta_words.proofs.PieceLemmas.{pieces_of-join}
+use Rattle.meta_lines.specs.Words.{AreWords, pieces_of}
+use Rattle.meta_lines.specs.Control.{control_text, IsBehind}
+use Rattle.meta_lines.proofs.PieceLemmas.{pieces_of-join}
 use Rattle.meta_verify.specs.Statement.{TypedValue, Application, OfParameter, OfApplication, IsValue, IsTyped, CanApply, IsStatement}
 use Rattle.meta_verify.specs.Statement.{value_text, typed_text, list_text, words_of}
 use Rattle.meta_verify.proofs.StatementLemmas.{states_application}
-use Rattle.meta_short.specs.Short.{control_written, parameter_text}
-use Rattle.meta_short.specs.Parts.{IsPlain}
-use Rattle.meta_short.proofs.SplitLemmas.{Lacks}
-use Rattle.meta_short.proofs.ShortLemmas.{IsMark, space, value_lacks, type_lacks}
+use Rattle.meta_asm.specs.Short.{control_written, parameter_text}
+use Rattle.meta_asm.specs.PlainNames.{IsPlain}
+use Rattle.meta_asm.proofs.SplitLemmas.{Lacks}
+use Rattle.meta_asm.proofs.ShortLemmas.{IsMark, space, value_lacks, type_lacks}
 use Rattle.meta_asm.specs.Written.{shown_control}
 
 -- ---- bytes that don't stand in a line

@@ -4,7 +4,7 @@ use Rattle.std.proofs.Common.{◌==◌, slice_get, Option, None, Some, refl, sym
 use Rattle.std.proofs.Common.{map, arith, rules, tests}
 use Rattle.std.proofs.lemmas.List.Concat.{flat_map-append}
 use Rattle.meta_lists.proofs.Places.{take_next}
-use Rattle.meta_meaning.specs.Tables.{TableContents}
+use Rattle.meta_inst.specs.Tables.{TableContents}
 use Rattle.meta_gen.specs.Reply.{AllowedReply}
 use Rattle.meta_verify.specs.Statement.{Statement, OfParameter, OfApplication, IsStatement, value_text, defined_by}
 use Rattle.meta_verify.specs.Environment.{Environment, nothing_defined, with_values}
@@ -13,10 +13,10 @@ use Rattle.meta_verify.specs.declared.reason.Reason.{Reason}
 use Rattle.meta_verify.proofs.StatementLemmas.{one_statement, name_has_bytes}
 use Rattle.meta_verify.proofs.OneAnswer.{not_wrong}
 use Rattle.meta_gen.proofs.OneReply.{one_allowed}
-use Rattle.meta_short.specs.Short.{Manner, short_results, short_result_text, behind, control_written, values_written, results_part}
-use Rattle.meta_short.specs.Short.{short_text}
-use Rattle.meta_short.specs.Manners.{IsMannerIn}
-use Rattle.meta_short.specs.Reading.{Manners, IsShort, IsShortIn}
+use Rattle.meta_asm.specs.Short.{Manner, short_results, short_result_text, behind, control_written, values_written, results_part}
+use Rattle.meta_asm.specs.Short.{short_text}
+use Rattle.meta_asm.specs.Manners.{IsMannerIn}
+use Rattle.meta_asm.specs.Reading.{Manners, IsShort, IsShortIn}
 use Rattle.meta_asm.specs.Listing.{text_of_lines, filled, AreShort, AreShortForms, AddsShortForm, AddsLine, IsFirstUnread}
 use Rattle.meta_asm.proofs.ReaderLemmas.{right_line}
 

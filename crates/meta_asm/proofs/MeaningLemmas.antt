@@ -1,16 +1,16 @@
 -- What is written by tables is what the declarations mean.
 use Rattle.std.proofs.Common.{◌↔◌, ℕ, Bool, true, false, List, [], ◌∷◌, take, sym, subst}
-use Rattle.meta_words.specs.Lines.{lines_of}
+use Rattle.meta_lines.specs.Lines.{lines_of}
 use Rattle.meta_inst.specs.InstructionSet.{InstructionSet}
-use Rattle.meta_meaning.specs.Tables.{TableContents}
+use Rattle.meta_inst.specs.Tables.{TableContents}
 use Rattle.meta_gen.specs.Reply.{AllowedReply, AcceptedReply}
 use Rattle.meta_verify.specs.Statement.{defined_by}
 use Rattle.meta_verify.specs.Environment.{Environment, nothing_defined, with_values, HasNamedTypes}
 use Rattle.meta_verify.specs.Verdict.{IsVerdict}
 use Rattle.meta_verify.proofs.StatementLemmas.{one_statement}
 use Rattle.meta_verify.proofs.Meaning.{all_named, results_typed, nothing_named}
-use Rattle.meta_short.specs.Manners.{IsMannerIn, IsMannerDeclared}
-use Rattle.meta_short.specs.Reading.{IsShortIn, IsShortDeclared}
+use Rattle.meta_asm.specs.Manners.{IsMannerIn, IsMannerDeclared}
+use Rattle.meta_asm.specs.Reading.{IsShortIn, IsShortDeclared}
 use Rattle.meta_asm.specs.Listing.{filled, AreShort, IsFirstUnread, IsShortened, IsSpelled}
 
 module _ (d : InstructionSet) (tables : TableContents) (means : (env : Environment) → HasNamedTypes env → (line text : List ℕ)

@@ -5,14 +5,14 @@ use Rattle.std.proofs.lemmas.Bool.{cases_order}
 use Rattle.std.proofs.lemmas.Option.{same_Some}
 use Rattle.std.proofs.lemmas.List.{take-take}
 use Rattle.meta_lists.proofs.Places.{get_take}
-use Rattle.meta_words.specs.Lines.{lines_of}
+use Rattle.meta_lines.specs.Lines.{lines_of}
 use Rattle.meta_verify.specs.Statement.{Statement, IsStatement, defined_by}
 use Rattle.meta_verify.specs.Environment.{Environment, nothing_defined, with_values}
 use Rattle.meta_verify.specs.Wrong.{Replies, Feeds}
 use Rattle.meta_verify.specs.Verdict.{LeadTo, IsFirstWrong, IsVerdict, wrong_text}
 use Rattle.meta_verify.specs.declared.reason.Reason.{Reason}
 use Rattle.meta_verify.specs.declared.reason.Reason.TheVariants.{Bad}
-use Rattle.meta_short.specs.Reading.{Manners, IsShort}
+use Rattle.meta_asm.specs.Reading.{Manners, IsShort}
 use Rattle.meta_asm.specs.Listing.{text_of_lines, filled, AreShort, IsFirstUnread, IsShortened, IsSpelled}
 use Rattle.meta_asm.specs.Form.{words_for}
 use Rattle.meta_asm.specs.declared.form.Form.{Form}

@@ -3,12 +3,12 @@ use Rattle.std.proofs.Common.{◌≡◌, ◌≢◌, ℕ, List, [], ◌∷◌, �
 use Rattle.std.proofs.Common.{arith}
 use Rattle.std.specs.Option.{option_map, option_map_or}
 use Rattle.std.proofs.lemmas.List.Elements.{All-append}
-use Rattle.meta_words.specs.Words.{pieces_of}
+use Rattle.meta_lines.specs.Words.{pieces_of}
 use Rattle.meta_verify.specs.Statement.{Application, CanApply, value_text}
-use Rattle.meta_short.specs.Short.{Manner, joined, behind, control_written, values_written, results_part}
-use Rattle.meta_short.specs.Parts.{IsPlain}
-use Rattle.meta_short.proofs.SplitLemmas.{Lacks, part_pieces, split_pieces, one_part}
-use Rattle.meta_short.proofs.ShortLemmas.{results_form, equals, space, front_lacks, control_lacks, values_lack}
+use Rattle.meta_asm.specs.Short.{Manner, joined, behind, control_written, values_written, results_part}
+use Rattle.meta_asm.specs.PlainNames.{IsPlain}
+use Rattle.meta_asm.proofs.SplitLemmas.{Lacks, part_pieces, split_pieces, one_part}
+use Rattle.meta_asm.proofs.ShortLemmas.{results_form, equals, space, front_lacks, control_lacks, values_lack}
 
 -- what was cut from a text of these parts
 module _ {X : Type 0} (now : X → List ℕ) (byte : ℕ) (text first : List ℕ) (rest : Option X) (cut : pieces_of byte text

@@ -21,16 +21,16 @@ use Rattle.meta_types.specs.TypeNumber.{type_with, IsTypeNumber}
 use Rattle.meta_types.proofs.Functions.{no_function}
 use Rattle.meta_types.proofs.TypeNumbers.{type_back, number_is_one}
 use Rattle.meta_inst.specs.Which.{First, both}
-use Rattle.meta_meaning.specs.Inference.{GivesNumber, GivesAt, GivesResults}
-use Rattle.meta_meaning.specs.Tables.{TableContents, OpcodeNumbers, NumberConstraint, ConcreteNumber, FreeOf, SameNumber, ByNumber}
-use Rattle.meta_meaning.specs.Tables.{NumberPasses, PassesAt, Allows, at_opcode, result_count, value_count, no_type_set}
-use Rattle.meta_opcode_tables.specs.Constraint.{number_constraint_of}
-use Rattle.meta_opcode_tables.specs.declared.constraint.Constraint.{Constraint}
-use Rattle.meta_opcode_tables.specs.declared.constraint.Constraint.TheVariants.{Same}
-use Rattle.meta_opcode_tables.specs.Contents.{IsOpcodeNamed}
-use Rattle.meta_opcode_tables.specs.WellFormed.{IsWellFormedOpcodes}
+use Rattle.meta_inst.specs.Inference.{GivesNumber, GivesAt, GivesResults}
+use Rattle.meta_inst.specs.Tables.{TableContents, OpcodeNumbers, NumberConstraint, ConcreteNumber, FreeOf, SameNumber, ByNumber}
+use Rattle.meta_inst.specs.Tables.{NumberPasses, PassesAt, Allows, at_opcode, result_count, value_count, no_type_set}
+use Rattle.meta_gen.specs.Constraint.{number_constraint_of}
+use Rattle.meta_gen.specs.declared.constraint.Constraint.{Constraint}
+use Rattle.meta_gen.specs.declared.constraint.Constraint.TheVariants.{Same}
+use Rattle.meta_gen.specs.Contents.{IsOpcodeNamed}
+use Rattle.meta_gen.specs.WellFormedOpcodes.{IsWellFormedOpcodes}
 use Rattle.meta_lists.proofs.Everywhere.{at_place}
-use Rattle.meta_words.specs.Control.{control_text, IsBehind}
+use Rattle.meta_lines.specs.Control.{control_text, IsBehind}
 use Rattle.meta_gen.specs.Reply.{AllowedReply}
 use Rattle.meta_verify.specs.Statement.{TypedValue, Application, Statement, OfParameter, OfApplication, IsStatement, value_text, typed_text}
 use Rattle.meta_verify.specs.Statement.{list_text}
@@ -40,12 +40,12 @@ use Rattle.meta_verify.specs.declared.reason.Reason.{Reason}
 use Rattle.meta_verify.proofs.StatementLemmas.{pieces_are, name_has_bytes}
 use Rattle.meta_verify.proofs.OneAnswer.{not_wrong}
 use Rattle.meta_gen.proofs.OneReply.{one_allowed}
-use Rattle.meta_short.specs.Short.{Manner, control_written, short_application, short_text}
-use Rattle.meta_short.specs.Parts.{IsPlain}
-use Rattle.meta_short.specs.Manners.{is_open, is_control, value_constraints, manner_of, IsMannerIn}
-use Rattle.meta_short.specs.Reading.{HasManner, IsShortIn}
-use Rattle.meta_short.proofs.Determined.{not_relation, one_number_reached, mark_is, value_within, control_constraint_is, control_of}
-use Rattle.meta_short.proofs.OneLine.{all_name_bytes, name_plain, same_opcode, one_manner, result_number_at}
+use Rattle.meta_asm.specs.Short.{Manner, control_written, short_application, short_text}
+use Rattle.meta_asm.specs.PlainNames.{IsPlain}
+use Rattle.meta_asm.specs.Manners.{is_open, is_control, value_constraints, manner_of, IsMannerIn}
+use Rattle.meta_asm.specs.Reading.{HasManner, IsShortIn}
+use Rattle.meta_asm.proofs.Determined.{not_relation, one_number_reached, mark_is, value_within, control_constraint_is, control_of}
+use Rattle.meta_asm.proofs.OneLine.{all_name_bytes, name_plain, same_opcode, one_manner, result_number_at}
 use Rattle.meta_asm.specs.Parts.{TellTypes}
 use Rattle.meta_asm.specs.Written.{shown_control}
 use Rattle.meta_asm.specs.Read.{IsReadBy}

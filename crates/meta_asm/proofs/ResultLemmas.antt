@@ -10,11 +10,11 @@ use Rattle.std.proofs.lemmas.List.Elements.{All-head, All-tail}
 use Rattle.meta_types.specs.TypeParts.{number_of, name_of}
 use Rattle.meta_types.specs.TypeNumber.{type_with, IsTypeNumber}
 use Rattle.meta_types.proofs.TypeNumbers.{type_back, number_is_one}
-use Rattle.meta_words.specs.Words.{pieces_of}
+use Rattle.meta_lines.specs.Words.{pieces_of}
 use Rattle.meta_verify.specs.Statement.{TypedValue, IsTyped, value_text, typed_text, list_text}
-use Rattle.meta_short.specs.Short.{shortened, short_results, short_result_text, joined, values_written}
-use Rattle.meta_short.proofs.SplitLemmas.{Lacks, joined_pieces}
-use Rattle.meta_short.proofs.ShortLemmas.{colon, comma, value_lacks, short_lacks}
+use Rattle.meta_asm.specs.Short.{shortened, short_results, short_result_text, joined, values_written}
+use Rattle.meta_asm.proofs.SplitLemmas.{Lacks, joined_pieces}
+use Rattle.meta_asm.proofs.ShortLemmas.{colon, comma, value_lacks, short_lacks}
 use Rattle.meta_asm.specs.Parts.{TellTypes, comma_behind}
 use Rattle.meta_asm.proofs.PartLemmas.{rest_is}
 

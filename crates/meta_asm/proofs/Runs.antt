@@ -1,8 +1,8 @@
 -- What a run writes.
 use Rattle.std.proofs.Common.{◌≡◌, ◌⊎◌, inl, inr, ℕ, Bool, true, false, List, [], ◌∷◌, ◌++◌, Option, Some, codes, refl, sym, ◌∙◌, subst}
 use Rattle.meta_types.specs.declared.fault.DefinitionError.{DefinitionError}
-use Rattle.meta_declared.specs.AllDeclared.{Declared, ShowsFirst, AreValid}
-use Rattle.meta_words.specs.Lines.{lines_of}
+use Rattle.meta_build.specs.AllDeclared.{Declared, ShowsFirst, AreValid}
+use Rattle.meta_lines.specs.Lines.{lines_of}
 use Rattle.meta_run.specs.Ending.{written_as}
 use Rattle.meta_run.specs.declared.ending.Ending.{Ending}
 use Rattle.meta_run.specs.declared.ending.Ending.TheVariants.{Done}

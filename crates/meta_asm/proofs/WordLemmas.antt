@@ -10,8 +10,8 @@ use Rattle.meta_types.specs.declared.value_type.ValueType.{ValueType}
 use Rattle.meta_types.proofs.TypeNumbers.{type_back}
 use Rattle.meta_types.proofs.Typed.{typed}
 use Rattle.meta_verify.specs.Statement.{list_text}
-use Rattle.meta_short.specs.Short.{joined, values_written}
-use Rattle.meta_short.proofs.SplitLemmas.{Lacks}
+use Rattle.meta_asm.specs.Short.{joined, values_written}
+use Rattle.meta_asm.proofs.SplitLemmas.{Lacks}
 
 -- the bytes that aren't spaces
 abbrev pub no_spaces : List ℕ → List ℕ

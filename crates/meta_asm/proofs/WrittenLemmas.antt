@@ -9,8 +9,8 @@ use Rattle.meta_verify.specs.Numbers.{applied, HasNumbers}
 use Rattle.meta_verify.specs.declared.statement.Application.{Application}
 use Rattle.meta_verify.proofs.StatementLemmas.{one_statement}
 use Rattle.meta_verify.proofs.EnvironmentLemmas.{number_back}
-use Rattle.meta_short.specs.Short.{Manner, control_written}
-use Rattle.meta_short.specs.Parts.{IsPlain}
+use Rattle.meta_asm.specs.Short.{Manner, control_written}
+use Rattle.meta_asm.specs.PlainNames.{IsPlain}
 use Rattle.meta_asm.specs.Written.{HasWritten}
 use Rattle.meta_asm.specs.declared.written.Written.{Written}
 use Rattle.meta_asm.proofs.LineLemmas.{shown, shown_states}

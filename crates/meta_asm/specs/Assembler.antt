@@ -2,8 +2,8 @@
 --     ShortensList, SpellsList, WritesBack      what it writes where nothing fails
 use Rattle.std.specs.Prelude.{◌≡◌, ◌≢◌, ℕ, ◌+◌, ◌⊎◌, Bool, true, false, List, ◌++◌, Option, Some}
 use Rattle.meta_text.specs.Outside.{Rose}
-use Rattle.meta_declared.specs.AllDeclared.{Declared, AreValid}
-use Rattle.meta_words.specs.Lines.{lines_of}
+use Rattle.meta_build.specs.AllDeclared.{Declared, AreValid}
+use Rattle.meta_lines.specs.Lines.{lines_of}
 use Rattle.meta_gen.specs.Reply.{AcceptedReply}
 use Rattle.meta_run.specs.Run.{IsGiven}
 use Rattle.meta_run.specs.declared.ending.Ending.{Ending}
@@ -11,7 +11,7 @@ use Rattle.meta_run.specs.declared.ending.Ending.TheVariants.{Done, OutOfMemory,
 use Rattle.meta_verify.specs.Verdict.{wrong_text}
 use Rattle.meta_verify.specs.Verifier.{SaysWrong}
 use Rattle.meta_verify.specs.declared.reason.Reason.TheVariants.{Bad}
-use Rattle.meta_short.specs.Manners.{IsMannerDeclared}
+use Rattle.meta_asm.specs.Manners.{IsMannerDeclared}
 use Rattle.meta_asm.specs.Listing.{text_of_lines, filled, AreShortForms, IsFirstUnread, IsShortened}
 use Rattle.meta_asm.specs.Form.{words_for, written_in}
 use Rattle.meta_asm.specs.declared.form.Form.{Form}

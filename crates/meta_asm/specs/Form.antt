@@ -2,7 +2,7 @@
 use Rattle.std.specs.Prelude.{ℕ, List, [], ◌∷◌, codes}
 use Rattle.meta_gen.specs.Reply.{AcceptedReply}
 use Rattle.meta_run.specs.Run.{Texts}
-use Rattle.meta_short.specs.Manners.{IsMannerDeclared}
+use Rattle.meta_asm.specs.Manners.{IsMannerDeclared}
 use Rattle.meta_asm.specs.Listing.{IsShortened, IsSpelled}
 use Rattle.meta_asm.specs.declared.form.Form.{Form}
 use Rattle.meta_asm.specs.declared.form.Form.TheVariants.{Short, Explicit}

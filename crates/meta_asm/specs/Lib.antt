@@ -1,3 +1,9 @@
+pub mod Short
+pub mod PlainNames
+pub mod Manners
+pub mod Reading
+pub mod Made
+pub mod ShortWritten
 pub mod Parts
 pub mod Written
 pub mod Read

@@ -3,15 +3,15 @@
 --     IsShortened, IsSpelled                 what the lines of an input are written as, in the short form and in the explicit one
 use Rattle.std.specs.Prelude.{◌≡◌, ◌≢◌, ◌⊎◌, ℕ, ◌+◌, Bool, true, false, List, [], ◌∷◌, ◌++◌, take, slice_get, Some}
 use Rattle.std.specs.List.{flat_map}
-use Rattle.meta_meaning.specs.Tables.{TableContents}
-use Rattle.meta_words.specs.Lines.{lines_of}
+use Rattle.meta_inst.specs.Tables.{TableContents}
+use Rattle.meta_lines.specs.Lines.{lines_of}
 use Rattle.meta_verify.specs.Statement.{defined_by}
 use Rattle.meta_verify.specs.Environment.{Environment, nothing_defined, with_values}
 use Rattle.meta_verify.specs.Wrong.{Replies}
 use Rattle.meta_verify.specs.Verdict.{wrong_text, IsFirstWrong}
 use Rattle.meta_verify.specs.declared.reason.Reason.{Reason}
 use Rattle.meta_verify.specs.declared.reason.Reason.TheVariants.{Bad}
-use Rattle.meta_short.specs.Reading.{Manners, IsShort, ReadsAs, IsShortIn}
+use Rattle.meta_asm.specs.Reading.{Manners, IsShort, ReadsAs, IsShortIn}
 
 -- the lines, each with LF
 abbrev pub text_of_lines : List (List ℕ) → List ℕ

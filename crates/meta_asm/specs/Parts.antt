@@ -5,7 +5,7 @@ use Rattle.std.specs.Prelude.{◌≡◌, ℕ, Bool, false, List, [], ◌∷◌, 
 use Rattle.std.specs.Option.{option_map}
 use Rattle.meta_types.specs.TypeParts.{number_of}
 use Rattle.meta_verify.specs.Statement.{TypedValue, Application, value_text}
-use Rattle.meta_short.specs.Short.{Manner, short_results, short_result_text, control_written, values_written}
+use Rattle.meta_asm.specs.Short.{Manner, short_results, short_result_text, control_written, values_written}
 use Rattle.meta_asm.specs.declared.parts.ShortParts.{ShortParts}
 
 -- the list of the results, the name, what stands after the point, and the list of the values

@@ -3,15 +3,15 @@
 use Rattle.std.specs.Prelude.{◌≡◌, ℕ, ◌<◌, List, length, Some}
 use Rattle.meta_lists.specs.First.{IsFirst}
 use Rattle.meta_types.specs.TypeParts.{TypeParts}
-use Rattle.meta_meaning.specs.Tables.{TableContents, OpcodeNumbers, at_opcode}
-use Rattle.meta_opcode_tables.specs.Contents.{IsOpcodeNamed}
+use Rattle.meta_inst.specs.Tables.{TableContents, OpcodeNumbers, at_opcode}
+use Rattle.meta_gen.specs.Contents.{IsOpcodeNamed}
 use Rattle.meta_gen.specs.Reply.{AllowsAsked}
 use Rattle.meta_verify.specs.Statement.{Application, CanApply}
 use Rattle.meta_verify.specs.Environment.{Environment, HaveTypes}
 use Rattle.meta_verify.specs.Wrong.{question_of}
-use Rattle.meta_short.specs.Short.{Manner}
-use Rattle.meta_short.specs.Parts.{IsPlain}
-use Rattle.meta_short.specs.Manners.{manner_of}
+use Rattle.meta_asm.specs.Short.{Manner}
+use Rattle.meta_asm.specs.PlainNames.{IsPlain}
+use Rattle.meta_asm.specs.Manners.{manner_of}
 
 -- the tables allow the types of the values and the results for the opcode of the name, whose entry gives the manner in which it is written
 pub record IsReadBy (tables : TableContents) (env : Environment) (op : ℕ) (entry : OpcodeNumbers) (m : Manner)

@@ -4,7 +4,7 @@ use Rattle.std.specs.Prelude.{◌≡◌, Bool, Option, Some, None, if◌then◌e
 use Rattle.std.specs.Option.{option_map}
 use Rattle.meta_types.specs.TypeParts.{TypeParts, number_of}
 use Rattle.meta_verify.specs.Statement.{Application}
-use Rattle.meta_short.specs.Short.{Manner}
+use Rattle.meta_asm.specs.Short.{Manner}
 use Rattle.meta_asm.specs.declared.written.Written.{Written}
 
 -- the controlling type, unless it stands alone and is left out

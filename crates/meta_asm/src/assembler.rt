@@ -5,10 +5,10 @@ ghost use Rattle.meta_asm.specs.Assembler.{ShortensList, SpellsList, WritesBack}
 
 use super::form::Form;
 use super::listing::{shortened, spelled};
-use meta_declared::{Built, Declarations, one_first_fault};
+use super::short_laws::short_forms_mean;
+use meta_build::{Built, Declarations, one_first_fault};
 use meta_gen::tables_of;
 use meta_run::{Answer, Answerer, Ending, run_answerer};
-use meta_short::short_forms_mean;
 use meta_text::{Sink, Source};
 use meta_types::Text;
 use meta_verify::verdicts_mean;

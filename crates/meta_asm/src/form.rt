@@ -25,7 +25,6 @@ impl Form {
         }
     }
 
-    /// The form of this name.
     fn named(name: &[u8]) -> Option<Form>
         ensures some { IfSome result (λ form. name.now ≡ form_name form) }
         ensures none { IfNone result ((form : spec.Form) → name.now ≢ form_name form) }

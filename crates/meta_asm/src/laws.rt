@@ -1,17 +1,17 @@
 ghost use Rattle.std.specs.Prelude.{◌≡◌, ◌↔◌, ℕ, List, Bool, false};
 ghost use Rattle.meta_inst.specs.InstructionSet.{InstructionSet};
 ghost use Rattle.meta_inst.specs.Faults.{IsValid};
-ghost use Rattle.meta_meaning.specs.Tables.{TableContents};
-ghost use Rattle.meta_opcode_tables.specs.WellFormed.{IsWellFormedOpcodes};
-ghost use Rattle.meta_declared.specs.AllDeclared.{Declared, AreValid};
-ghost use Rattle.meta_words.specs.Lines.{lines_of};
+ghost use Rattle.meta_inst.specs.Tables.{TableContents};
+ghost use Rattle.meta_gen.specs.WellFormedOpcodes.{IsWellFormedOpcodes};
+ghost use Rattle.meta_build.specs.AllDeclared.{Declared, AreValid};
+ghost use Rattle.meta_lines.specs.Lines.{lines_of};
 ghost use Rattle.meta_gen.specs.Reply.{AllowedReply, AcceptedReply};
-ghost use Rattle.meta_short.specs.Manners.{IsMannerIn, IsMannerDeclared};
+ghost use Rattle.meta_asm.specs.Manners.{IsMannerIn, IsMannerDeclared};
 ghost use Rattle.meta_asm.specs.Listing.{text_of_lines, filled, IsShortened, IsSpelled};
 ghost use Rattle.meta_asm.specs.Form.{words_for, written_in};
 ghost use Rattle.meta_asm.specs.declared.form.Form.{Form};
 
-use meta_short::{one_line_reads, one_short_form};
+use super::short_laws::{one_line_reads, one_short_form};
 use meta_verify::{one_answer, one_statement, one_verdict};
 
 /// The short forms of a list, as a text, are written back as the list itself, and as nothing else: its lines but the empty ones, without

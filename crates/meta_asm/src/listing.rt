@@ -4,19 +4,18 @@ ghost use Rattle.meta_gen.specs.Reply.{AllowedReply};
 ghost use Rattle.meta_verify.specs.Defined.{definitions};
 ghost use Rattle.meta_verify.specs.Wrong.{Feeds};
 ghost use Rattle.meta_verify.specs.Verdict.{wrong_text};
-ghost use Rattle.meta_short.specs.Manners.{IsMannerIn};
-ghost use Rattle.meta_short.specs.Reading.{ReadsIn};
+ghost use Rattle.meta_asm.specs.Manners.{IsMannerIn};
+ghost use Rattle.meta_asm.specs.Reading.{ReadsIn};
 ghost use Rattle.meta_asm.specs.Listing.{AddsShortForm, AddsLine, IsShortened, IsSpelled};
 
+use super::print::push_line;
 use super::reader::read_line;
 use meta_gen::Tables;
+use meta_lines::Lines;
 use meta_run::Answer;
-use meta_short::push_line;
 use meta_verify::{Checker, Reason, wrong_line};
-use meta_words::Lines;
 use std::alloc::{AllocError, Global};
 
-/// The answer that rejects an input by the number of its first wrong line, and why it is wrong.
 fn rejection(alloc: Global, number: usize, reason: Reason) -> Result<Answer, AllocError>
     ensures { IfOk result (λ answer. (answer.is_rejection ≡ true) × (string_bytes answer.text ≡ wrong_text number reason)) }
 {

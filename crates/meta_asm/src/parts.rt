@@ -1,11 +1,11 @@
 ghost use Rattle.std.specs.Prelude.{◌≡◌, ◌≢◌, ℕ, List, [], ◌∷◌, ◌++◌, All};
 ghost use Rattle.std.specs.Option.{option_map};
 ghost use Rattle.meta_verify.specs.Statement.{Application, CanApply};
-ghost use Rattle.meta_short.specs.Short.{Manner, results_part, values_written, short_application};
-ghost use Rattle.meta_short.specs.Parts.{IsPlain};
+ghost use Rattle.meta_asm.specs.Short.{Manner, results_part, values_written, short_application};
+ghost use Rattle.meta_asm.specs.PlainNames.{IsPlain};
 ghost use Rattle.meta_asm.specs.Parts.{HasShortParts};
 
-use meta_words::cut;
+use meta_lines::cut;
 
 /// The parts of the short form of an application: the list before ` = `, the name, what stands after the point, and the list of the values.
 #[derive(Clone, Copy)]

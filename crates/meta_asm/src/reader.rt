@@ -3,26 +3,27 @@ ghost use Rattle.std.specs.Option.{option_map};
 ghost use Rattle.std.specs.List.{position};
 ghost use Rattle.meta_lists.specs.First.{IsFirst};
 ghost use Rattle.meta_types.specs.TypeParts.{number_of};
-ghost use Rattle.meta_meaning.specs.Tables.{OpcodeNumbers, at_opcode};
-ghost use Rattle.meta_opcode_tables.specs.Constraint.{number_constraint_of, entry_of};
-ghost use Rattle.meta_opcode_tables.specs.Contents.{IsOpcodeNamed};
+ghost use Rattle.meta_inst.specs.Tables.{OpcodeNumbers, at_opcode};
+ghost use Rattle.meta_gen.specs.Constraint.{number_constraint_of, entry_of};
+ghost use Rattle.meta_gen.specs.Contents.{IsOpcodeNamed};
 ghost use Rattle.meta_gen.specs.Reply.{AllowedReply};
 ghost use Rattle.meta_verify.specs.Statement as spec;
 ghost use Rattle.meta_verify.specs.Defined.{definitions};
 ghost use Rattle.meta_verify.specs.Wrong.{IsRight};
-ghost use Rattle.meta_short.specs.Short.{Manner as spec_Manner, short_application};
-ghost use Rattle.meta_short.specs.Manners.{manner_of, is_control, IsMannerIn};
-ghost use Rattle.meta_short.specs.Reading.{IsShortIn, ReadsIn};
+ghost use Rattle.meta_asm.specs.Short.{Manner as spec_Manner, short_application};
+ghost use Rattle.meta_asm.specs.Manners.{manner_of, is_control, IsMannerIn};
+ghost use Rattle.meta_asm.specs.Reading.{IsShortIn, ReadsIn};
 ghost use Rattle.meta_asm.specs.Parts.{HasShortParts};
 ghost use Rattle.meta_asm.specs.Read.{IsReadBy};
 ghost use Rattle.meta_asm.specs.Written.{HasWritten};
 
+use super::manner::{Manner, is_control, value_constraints};
 use super::parts::{ShortParts, parts_of};
+use super::print::print_line;
 use super::results::results_word;
 use super::words::{Words, control_word, line_of, values_word};
 use super::written::{Written, written_of};
 use meta_gen::{Constraint, OpcodeConstraints, Tables};
-use meta_short::{Manner, is_control, print_line, value_constraints};
 use meta_types::Text;
 use meta_verify::Checker;
 use std::alloc::{AllocError, Global};
@@ -36,7 +37,6 @@ struct Named {
     leaves_out: bool,
 }
 
-/// The opcode that has the name.
 fn find_named(tables: &Tables, name: &[u8]) -> Option<Named>
     ensures first { IfSome result (λ n. IsFirst (IsOpcodeNamed tables.now.opcodes.names name.now) n.opcode) }
     ensures entry { IfSome result (λ n. at_opcode tables.now.opcodes.entries n.opcode ≡ Some (entry_of n.entry)) }
@@ -149,7 +149,6 @@ fn is_short_form(
     }
 }
 
-/// The line as a text, if it is one.
 fn text_of(alloc: Global, line: &[u8]) -> Result<Option<Text>, AllocError>
     ensures some { IfOk result (λ o. IfSome o (λ t. t ≡ line.now)) }
     ensures none { IfOk result (λ o. IfNone o (¬ All (λ b. b < 128) line.now)) }

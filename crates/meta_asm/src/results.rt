@@ -2,12 +2,12 @@ ghost use Rattle.std.specs.Prelude.{◌≡◌, ◌++◌, ℕ, Bool, true, List, 
 ghost use Rattle.std.specs.Option.{option_map};
 ghost use Rattle.meta_types.specs.TypeParts.{number_of};
 ghost use Rattle.meta_verify.specs.Statement.{TypedValue, IsTyped, typed_text, list_text};
-ghost use Rattle.meta_short.specs.Short.{shortened, short_results, short_result_text, values_written};
+ghost use Rattle.meta_asm.specs.Short.{shortened, short_results, short_result_text, values_written};
 ghost use Rattle.meta_asm.specs.Parts.{TellTypes, comma_behind};
 
 use super::parts::without_space_before;
 use super::words::push_type;
-use meta_words::{Pieces, cut};
+use meta_lines::{Pieces, cut};
 use std::alloc::{AllocError, Global};
 
 /// Adds a result with its type: as it is written, or else the type with this number. The answer is false if no type has it.
@@ -41,7 +41,6 @@ fn push_comma(word: &mut Vec<u8>) -> Result<(), AllocError>
     Ok(())
 }
 
-/// The first of the numbers, and those after it.
 fn next_number(numbers: &[u16]) -> Option<(u16, &[u16])>
     ensures some { IfSome result (λ p. numbers.now ≡ p.0 ∷ p.1.now) }
     ensures none { IfNone result (numbers.now ≡ []) }

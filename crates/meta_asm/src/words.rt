@@ -4,9 +4,9 @@ ghost use Rattle.std.specs.List.{join_with_byte};
 ghost use Rattle.std.specs.Option.{option_map};
 ghost use Rattle.meta_types.specs.TypeParts.{name_of};
 ghost use Rattle.meta_types.specs.TypeNumber.{type_with, IsTypeNumber};
-ghost use Rattle.meta_words.specs.Control.{control_text};
+ghost use Rattle.meta_lines.specs.Control.{control_text};
 ghost use Rattle.meta_verify.specs.Statement.{list_text};
-ghost use Rattle.meta_short.specs.Short.{values_written};
+ghost use Rattle.meta_asm.specs.Short.{values_written};
 
 use meta_types::ValueType;
 use std::alloc::{AllocError, Global};

@@ -1,8 +1,8 @@
 ghost use Rattle.std.specs.Prelude.{◌≡◌, ◌<◌, map, length, IfOk};
 ghost use Rattle.meta_verify.specs.Statement as spec;
 ghost use Rattle.meta_verify.specs.Statement.{CanApply, value_text, list_text};
-ghost use Rattle.meta_short.specs.Short.{Manner};
-ghost use Rattle.meta_short.specs.Parts.{IsPlain};
+ghost use Rattle.meta_asm.specs.Short.{Manner};
+ghost use Rattle.meta_asm.specs.PlainNames.{IsPlain};
 ghost use Rattle.meta_asm.specs.Parts.{HasShortParts};
 ghost use Rattle.meta_asm.specs.Written.{IsWritten};
 

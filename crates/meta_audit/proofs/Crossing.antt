@@ -2,8 +2,8 @@
 use Rattle.std.proofs.Common.{◌≡◌, ◌↔◌, ◌⊎◌, ℕ, Bool, true, false, Option, slice_get, None, Some, refl, sym, ◌∙◌, subst, inl, inr}
 use Rattle.std.proofs.lemmas.Option.{same_Some, none-some}
 use Rattle.meta_inst.specs.Which.{Which, First, Second, both}
-use Rattle.meta_meaning.specs.Tables.{TableContents, NumberConstraint, ConcreteNumber, FreeOf, SameNumber, ByNumber, ControlNumberFits}
-use Rattle.meta_meaning.specs.Tables.{NumberPasses, PassesAt}
+use Rattle.meta_inst.specs.Tables.{TableContents, NumberConstraint, ConcreteNumber, FreeOf, SameNumber, ByNumber, ControlNumberFits}
+use Rattle.meta_inst.specs.Tables.{NumberPasses, PassesAt}
 use Rattle.meta_audit.specs.Comparison.{SameNumbers, SamePlace, reads, ReadsAt, paired, Ignores}
 
 -- ---- what a constraint depends on

@@ -12,16 +12,16 @@ use Rattle.meta_inst.specs.InstructionSet.{InstructionSet, root_sets, instructio
 use Rattle.meta_inst.specs.Faults.{IsAt, IsValid}
 use Rattle.meta_inst.proofs.OneControl.{same_control}
 use Rattle.meta_inst.proofs.ValidControls.{good_second, well_derived}
-use Rattle.meta_meaning.specs.Acceptance.{AcceptsNumbers, IsNumberOf}
-use Rattle.meta_meaning.specs.Constraint.{TypeConstraint, IsConstraint, PassesOwn, ControlFits}
-use Rattle.meta_meaning.specs.Tables.{TableContents, OpcodeNumbers, SetContains, PassesAt, ControlNumberFits, Allows, at_opcode}
-use Rattle.meta_meaning.proofs.Constrained.{has_constraint}
-use Rattle.meta_meaning.proofs.Listed.{number_of_type, number_of_none}
-use Rattle.meta_meaning.proofs.Allowing.{TellsOperands, allows_exactly}
-use Rattle.meta_opcode_tables.specs.TablesOf.{AcceptsOpcode}
+use Rattle.meta_inst.specs.Acceptance.{AcceptsNumbers, IsNumberOf}
+use Rattle.meta_inst.specs.Constraint.{TypeConstraint, IsConstraint, PassesOwn, ControlFits}
+use Rattle.meta_inst.specs.Tables.{TableContents, OpcodeNumbers, SetContains, PassesAt, ControlNumberFits, Allows, at_opcode}
+use Rattle.meta_inst.proofs.Constrained.{has_constraint}
+use Rattle.meta_inst.proofs.ListedOperands.{number_of_type, number_of_none}
+use Rattle.meta_inst.proofs.Allowing.{TellsOperands, allows_exactly}
+use Rattle.meta_gen.specs.TablesOf.{AcceptsOpcode}
 use Rattle.meta_types.specs.TypeNumber.{type_with, IsTypeNumber}
-use Rattle.meta_opcode_tables.specs.WellFormed.{IsWellFormedOpcodes}
-use Rattle.meta_opcode_tables.proofs.Derivations.{no_bad_place}
+use Rattle.meta_gen.specs.WellFormedOpcodes.{IsWellFormedOpcodes}
+use Rattle.meta_gen.proofs.Derivations.{no_bad_place}
 use Rattle.meta_audit.specs.Matching.{MeansSetOf, MatchesEntry, Matches}
 use Rattle.meta_audit.specs.Verdict.{AreAsMany, AllMatch}
 use Rattle.meta_audit.proofs.Typed.{absent_fits, some_fits, fitting, contained_typed, fitting_typed, passing_number}

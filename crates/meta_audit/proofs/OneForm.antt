@@ -4,9 +4,9 @@ use Rattle.std.proofs.Common.{arith}
 use Rattle.std.proofs.lemmas.Option.{same_Some, slice_get_within}
 use Rattle.meta_typevar.specs.Masks.{ContainsNumber}
 use Rattle.meta_inst.specs.Which.{Which}
-use Rattle.meta_meaning.specs.Tables.{TableContents, NumberConstraint, ConcreteNumber, FreeOf, SameNumber, ByNumber, SetContains}
-use Rattle.meta_meaning.specs.Tables.{ControlNumberFits, NumberPasses, no_type_set}
-use Rattle.meta_opcode_tables.specs.WellFormed.{IsWellFormedOpcodes}
+use Rattle.meta_inst.specs.Tables.{TableContents, NumberConstraint, ConcreteNumber, FreeOf, SameNumber, ByNumber, SetContains}
+use Rattle.meta_inst.specs.Tables.{ControlNumberFits, NumberPasses, no_type_set}
+use Rattle.meta_gen.specs.WellFormedOpcodes.{IsWellFormedOpcodes}
 use Rattle.meta_audit.specs.Comparison.{SameNumbers, SameControl, SameMasks, NamesNoSet, AreOneForm, HaveOneForm}
 use Rattle.meta_audit.proofs.Typed.{absent_fits, some_fits, none_fits, number_fits}
 

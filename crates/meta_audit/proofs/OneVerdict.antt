@@ -1,7 +1,7 @@
 -- There is at most one verdict on tables that are compared with declarations, and at most one line for a text.
 use Rattle.std.proofs.Common.{◌≡◌, ◌+◌, ℕ, List, [], ◌∷◌, ◌++◌, refl, sym, ap, ◌∙◌, subst, inl, inr}
 use Rattle.meta_lists.proofs.First.{one_first}
-use Rattle.meta_declared.specs.AllDeclared.{Declared}
+use Rattle.meta_build.specs.AllDeclared.{Declared}
 use Rattle.meta_gen.specs.WholeTables.{WholeTables}
 use Rattle.meta_table_reader.specs.Readable.{Reads}
 use Rattle.meta_audit.specs.Verdict.{AllMatch, Differs, DiffersAt, IsAuditVerdict}

@@ -8,10 +8,10 @@ use Rattle.meta_types.specs.TypeParts.{TypeParts, number_of}
 use Rattle.meta_types.proofs.AllTypes.{at_all, at_all_types}
 use Rattle.meta_types.proofs.TypeNumbers.{number_is_one}
 use Rattle.meta_inst.specs.Which.{Which, First, Second, both}
-use Rattle.meta_meaning.specs.Tables.{TableContents, NumberConstraint, ConcreteNumber, FreeOf, SameNumber, ByNumber, SetContains}
-use Rattle.meta_meaning.specs.Tables.{ControlNumberFits, NumberPasses, PassesAt, no_type_set}
+use Rattle.meta_inst.specs.Tables.{TableContents, NumberConstraint, ConcreteNumber, FreeOf, SameNumber, ByNumber, SetContains}
+use Rattle.meta_inst.specs.Tables.{ControlNumberFits, NumberPasses, PassesAt, no_type_set}
 use Rattle.meta_types.specs.TypeNumber.{type_with, IsTypeNumber}
-use Rattle.meta_opcode_tables.specs.WellFormed.{IsWellFormedConstraint, IsWellFormedOpcodes}
+use Rattle.meta_gen.specs.WellFormedOpcodes.{IsWellFormedConstraint, IsWellFormedOpcodes}
 use Rattle.meta_audit.specs.Comparison.{SameNumbers, SameControl}
 
 -- ---- numbers of types

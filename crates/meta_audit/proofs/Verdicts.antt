@@ -12,19 +12,19 @@ use Rattle.meta_inst.specs.Instruction.{IsOperand}
 use Rattle.meta_inst.specs.InstructionSet.{InstructionSet, root_sets, instruction_in_set}
 use Rattle.meta_inst.specs.Faults.{IsAt}
 use Rattle.meta_inst.proofs.OneControl.{same_control}
-use Rattle.meta_meaning.specs.Tables.{TableContents, OpcodeNumbers}
+use Rattle.meta_inst.specs.Tables.{TableContents, OpcodeNumbers}
 use Rattle.meta_settings.specs.GroupDeclaration.{GroupDeclaration}
 use Rattle.meta_settings.specs.LaidOut.{built_of}
-use Rattle.meta_opcode_tables.specs.TablesOf.{AreTablesOf}
-use Rattle.meta_opcode_tables.specs.WellFormed.{IsWellFormedOpcodes}
-use Rattle.meta_opcode_tables.specs.Found.{IsDeclaredNamed, FindsName}
-use Rattle.meta_opcode_tables.specs.Contents.{IsOpcodeNamed}
+use Rattle.meta_gen.specs.TablesOf.{AreTablesOf}
+use Rattle.meta_gen.specs.WellFormedOpcodes.{IsWellFormedOpcodes}
+use Rattle.meta_gen.specs.Found.{IsDeclaredNamed, FindsName}
+use Rattle.meta_gen.specs.Contents.{IsOpcodeNamed}
 use Rattle.meta_setting_tables.specs.GroupTables.{GroupContents, names_in}
 use Rattle.meta_setting_tables.specs.FoundSetting.{entry_names, FindsEntry}
 use Rattle.meta_setting_tables.proofs.BuiltNames.{built_names}
 use Rattle.meta_setting_tables.proofs.Finding.{finds_exactly}
 use Rattle.meta_lists.proofs.Options.{mapped}
-use Rattle.meta_declared.specs.AllDeclared.{Declared, AreValidGroups}
+use Rattle.meta_build.specs.AllDeclared.{Declared, AreValidGroups}
 use Rattle.meta_gen.specs.WholeTables.{WholeTables, AreTablesOfGroups, AreWholeTablesOf, FindsSetting}
 use Rattle.meta_gen.specs.WellFormed.{IsWellFormed}
 use Rattle.meta_audit.specs.Matching.{Matches, MatchesEntry}

@@ -2,7 +2,7 @@
 --     IsAuditLine d text out      the line for a text that is compared with declarations
 use Rattle.std.specs.Prelude.{◌≡◌, ◌⊎◌, ℕ, List, [], ◌∷◌, ◌++◌, codes}
 use Rattle.std.specs.Fmt.{decimal}
-use Rattle.meta_declared.specs.AllDeclared.{Declared}
+use Rattle.meta_build.specs.AllDeclared.{Declared}
 use Rattle.meta_gen.specs.WholeTables.{WholeTables}
 use Rattle.meta_table_reader.specs.Readable.{Reads, refused_line}
 use Rattle.meta_audit.specs.Verdict.{IsAuditVerdict}

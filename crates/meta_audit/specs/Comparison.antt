@@ -3,8 +3,8 @@
 use Rattle.std.specs.Prelude.{◌≡◌, ◌↔◌, ◌⊎◌, ◌+◌, ◌<◌, ℕ, Bool, true, false, Option, Some, slice_get}
 use Rattle.meta_typevar.specs.declared.masks.Masks.{Masks}
 use Rattle.meta_inst.specs.Which.{Which, First, Second, both}
-use Rattle.meta_meaning.specs.Tables.{TableContents, OpcodeNumbers, NumberConstraint, ConcreteNumber, FreeOf, SameNumber, ByNumber}
-use Rattle.meta_meaning.specs.Tables.{ControlNumberFits, PassesAt, result_count, value_count}
+use Rattle.meta_inst.specs.Tables.{TableContents, OpcodeNumbers, NumberConstraint, ConcreteNumber, FreeOf, SameNumber, ByNumber}
+use Rattle.meta_inst.specs.Tables.{ControlNumberFits, PassesAt, result_count, value_count}
 
 -- under these controlling numbers the same numbers pass at the place p of the one and at the place q of the other
 abbrev pub SameNumbers : TableContents → TableContents → (Which → Option ℕ) → ℕ → ℕ → Type 0

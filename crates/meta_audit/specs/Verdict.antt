@@ -7,13 +7,13 @@ use Rattle.meta_lists.specs.First.{IsFirst}
 use Rattle.meta_inst.specs.Builder.{Builder}
 use Rattle.meta_inst.specs.InstructionSet.{InstructionSet}
 use Rattle.meta_inst.specs.Faults.{IsAt}
-use Rattle.meta_meaning.specs.Tables.{TableContents}
+use Rattle.meta_inst.specs.Tables.{TableContents}
 use Rattle.meta_settings.specs.GroupDeclaration.{GroupDeclaration}
 use Rattle.meta_settings.specs.LaidOut.{built_of}
-use Rattle.meta_opcode_tables.specs.Contents.{IsOpcodeNamed}
+use Rattle.meta_gen.specs.Contents.{IsOpcodeNamed}
 use Rattle.meta_setting_tables.specs.FoundSetting.{entry_names, FindsEntry}
 use Rattle.meta_setting_tables.specs.GroupTables.{GroupContents, names_in}
-use Rattle.meta_declared.specs.AllDeclared.{Declared}
+use Rattle.meta_build.specs.AllDeclared.{Declared}
 use Rattle.meta_gen.specs.WholeTables.{WholeTables, OfGroup, HasNoGroup}
 use Rattle.meta_audit.specs.Matching.{Matches}
 use Rattle.meta_audit.specs.Comparison.{SameOpcode}

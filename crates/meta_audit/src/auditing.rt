@@ -1,9 +1,9 @@
 ghost use Rattle.std.specs.Prelude.{◌≡◌, ◌≢◌, ◌↔◌, ℕ, List, Option, IfOk, IfErr, OnOk};
 ghost use Rattle.meta_types.specs.declared.fault.DefinitionError.TheVariants.{OutOfMemory};
-ghost use Rattle.meta_meaning.specs.Tables.{Allows};
-ghost use Rattle.meta_opcode_tables.specs.Found.{FindsName};
-ghost use Rattle.meta_opcode_tables.specs.TablesOf.{AcceptsOpcode};
-ghost use Rattle.meta_declared.specs.AllDeclared.{ShowsFirst, AreValid};
+ghost use Rattle.meta_inst.specs.Tables.{Allows};
+ghost use Rattle.meta_gen.specs.Found.{FindsName};
+ghost use Rattle.meta_gen.specs.TablesOf.{AcceptsOpcode};
+ghost use Rattle.meta_build.specs.AllDeclared.{ShowsFirst, AreValid};
 ghost use Rattle.meta_gen.specs.WholeTables.{AreWholeTablesOf, FindsSetting};
 ghost use Rattle.meta_gen.specs.WellFormed.{IsWellFormed};
 ghost use Rattle.meta_audit.specs.Verdict.{IsComparison, IsAuditVerdict, FindsOpcode, FindsSettingIn};
@@ -19,7 +19,6 @@ use meta_gen::{Declarations, Tables, generate};
 use meta_types::DefinitionError;
 use std::alloc::Global;
 
-/// The verdict on other tables, by these.
 fn compared(own: &Tables, other: &Tables) -> Verdict
     ensures comparison { IsComparison own.now other.now result }
     ensures own_well_formed { IsWellFormed own.now }

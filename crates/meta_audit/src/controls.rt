@@ -1,10 +1,10 @@
 ghost use Rattle.std.specs.Prelude.{◌≡◌, ◌↔◌, ℕ, Option, IsTrue, IfSome, IfNone};
-ghost use Rattle.meta_meaning.specs.Tables.{ControlNumberFits};
-ghost use Rattle.meta_opcode_tables.specs.WellFormed.{IsWellFormedOpcodes};
+ghost use Rattle.meta_inst.specs.Tables.{ControlNumberFits};
+ghost use Rattle.meta_gen.specs.WellFormedOpcodes.{IsWellFormedOpcodes};
 ghost use Rattle.meta_audit.specs.Comparison.{SameControl};
 
 use super::forms::same_masks;
-use meta_opcode_tables::OpcodeTables;
+use meta_gen::OpcodeTables;
 
 /// The base from which the numbers of types count. All of them are greater.
 pub(crate) const LEAST: u16 = 112;

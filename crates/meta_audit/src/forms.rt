@@ -1,10 +1,10 @@
 ghost use Rattle.std.specs.Prelude.{◌≡◌, ◌↔◌, IsTrue, IfSome, IfNone};
-ghost use Rattle.meta_meaning.specs.Tables.{FreeOf};
-ghost use Rattle.meta_opcode_tables.specs.Constraint.{number_constraint_of};
+ghost use Rattle.meta_inst.specs.Tables.{FreeOf};
+ghost use Rattle.meta_gen.specs.Constraint.{number_constraint_of};
 ghost use Rattle.meta_inst.specs.Controls.{which_of};
 ghost use Rattle.meta_audit.specs.Comparison.{SameMasks, NamesNoSet, AreOneForm, HaveOneForm, reads, ReadsAt};
 
-use meta_opcode_tables::{Constraint, Demand, OpcodeTables, Which, equal_constraints};
+use meta_gen::{Constraint, Demand, OpcodeTables, Which, equal_constraints};
 
 /// Whether there are type sets at these places, one of each tables, and they have the same masks.
 pub(crate) fn same_masks(own: &OpcodeTables, other: &OpcodeTables, set: u16, other_set: u16) -> bool
@@ -19,7 +19,6 @@ pub(crate) fn same_masks(own: &OpcodeTables, other: &OpcodeTables, set: u16, oth
     masks == other_masks
 }
 
-/// The place of the type set that the constraint names.
 fn named_set(constraint: Constraint) -> Option<u16>
     ensures some { IfSome result (λ set. number_constraint_of constraint ≡ FreeOf set) }
     ensures none { IfNone result (NamesNoSet (number_constraint_of constraint)) }

@@ -1,9 +1,9 @@
 ghost use Rattle.std.specs.Prelude.{◌≡◌, ◌↔◌, ℕ, List, Option};
 ghost use Rattle.meta_typevar.specs.Registry.{HoldTypeSets};
-ghost use Rattle.meta_meaning.specs.Tables.{Allows};
-ghost use Rattle.meta_opcode_tables.specs.Found.{FindsName};
-ghost use Rattle.meta_opcode_tables.specs.TablesOf.{AcceptsOpcode};
-ghost use Rattle.meta_declared.specs.AllDeclared.{Declared, AreValid};
+ghost use Rattle.meta_inst.specs.Tables.{Allows};
+ghost use Rattle.meta_gen.specs.Found.{FindsName};
+ghost use Rattle.meta_gen.specs.TablesOf.{AcceptsOpcode};
+ghost use Rattle.meta_build.specs.AllDeclared.{Declared, AreValid};
 ghost use Rattle.meta_gen.specs.WholeTables.{WholeTables, AreWholeTablesOf, FindsSetting};
 ghost use Rattle.meta_gen.specs.WellFormed.{IsWellFormed};
 ghost use Rattle.meta_audit.specs.AuditLine.{IsAuditLine};

@@ -1,12 +1,12 @@
 ghost use Rattle.std.specs.Prelude.{◌≡◌, ◌↔◌, ◌<◌, ◌+◌, ℕ, length, IsTrue};
-ghost use Rattle.meta_meaning.specs.Tables.{result_count, value_count};
-ghost use Rattle.meta_opcode_tables.specs.Constraint.{entry_of};
-ghost use Rattle.meta_opcode_tables.specs.WellFormed.{IsWellFormedOpcodes};
+ghost use Rattle.meta_inst.specs.Tables.{result_count, value_count};
+ghost use Rattle.meta_gen.specs.Constraint.{entry_of};
+ghost use Rattle.meta_gen.specs.WellFormedOpcodes.{IsWellFormedOpcodes};
 ghost use Rattle.meta_audit.specs.Comparison.{SamePlace, SameEntry, SameOpcode};
 
 use super::controls::same_control;
 use super::places::Places;
-use meta_opcode_tables::{OpcodeConstraints, OpcodeTables};
+use meta_gen::{OpcodeConstraints, OpcodeTables};
 
 /// Whether at each operand of the one entry the same numbers pass as at that of the other.
 fn same_operands(
@@ -38,7 +38,6 @@ fn same_operands(
     true
 }
 
-/// Whether the entries mean the same.
 fn same_entry(
     own: &OpcodeTables,
     other: &OpcodeTables,

@@ -1,14 +1,14 @@
 ghost use Rattle.std.specs.Prelude.{◌≡◌, ◌↔◌, ℕ, Option, IsTrue, IfSome};
 ghost use Rattle.meta_inst.specs.Which.{both};
-ghost use Rattle.meta_meaning.specs.Tables.{ControlNumberFits};
+ghost use Rattle.meta_inst.specs.Tables.{ControlNumberFits};
 ghost use Rattle.meta_inst.specs.Controls.{which_of};
 ghost use Rattle.meta_types.specs.TypeNumber.{IsTypeNumber};
-ghost use Rattle.meta_opcode_tables.specs.WellFormed.{IsWellFormedOpcodes};
+ghost use Rattle.meta_gen.specs.WellFormedOpcodes.{IsWellFormedOpcodes};
 ghost use Rattle.meta_audit.specs.Comparison.{SameNumbers, SamePlace, paired};
 
 use super::controls::{END, LEAST, some_control};
 use super::forms::{have_one_form, reads_at};
-use meta_opcode_tables::{OpcodeTables, Which};
+use meta_gen::{OpcodeTables, Which};
 
 /// Two tables, and a place of an operand constraint in each.
 #[derive(Clone, Copy)]

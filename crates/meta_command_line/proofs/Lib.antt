@@ -1,7 +1,6 @@
-mod Asked
-mod Entries
-mod NotWrong
-mod OnePlan
-mod OneWrong
-mod PlainLine
-mod Words
+mod Behind
+mod First
+mod Line
+mod Numbers
+mod Plain
+mod Taken

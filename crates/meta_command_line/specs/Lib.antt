@@ -1,4 +1,5 @@
-pub mod Plan
+pub mod Asked
+pub mod Misuse
+pub mod OwnAnswer
 pub mod Telling
-pub mod Trouble
-pub mod Wrong
+pub mod Usage

@@ -1,30 +1,16 @@
--- What is said of how a run ended.
---     about tool ending     what the ending was about, and no text if all is done
-use Rattle.std.specs.Prelude.{ℕ, List, Option, Some, codes}
+-- What a program says of its ending.
+--     about_text ending     the text after the name of the program on standard error, and no text if all is done
+use Rattle.std.specs.Prelude.{ℕ, List, Option, None, Some, codes}
 use Rattle.meta_run.specs.declared.ending.Ending.{Ending}
-use Rattle.meta_run.specs.declared.ending.Ending.TheVariants as ends
-use Rattle.meta_main.specs.Telling.{about_text}
-use Rattle.meta_file.specs.declared.tool.Tool.{Tool}
-use Rattle.meta_file.specs.declared.tool.Tool.TheVariants.{Run, TablesIn, Verify, Asm, Flags, Audit, Check, Describe}
+use Rattle.meta_run.specs.declared.ending.Ending.TheVariants.{Done, Refused, Usage, ReadFault, WriteFault, OutOfMemory, TooLong, Rejected}
 
--- why a tool rejects; a tool without an input says what of the declarations can't be written
-abbrev pub rejection_text : Tool → Option (List ℕ)
-rejection_text (Run command) = about_text ends.Rejected
-rejection_text (TablesIn version) = Some (codes "the tables don't fit the version")
-rejection_text Verify = about_text ends.Rejected
-rejection_text (Asm form) = about_text ends.Rejected
-rejection_text Flags = about_text ends.Rejected
-rejection_text Audit = about_text ends.Rejected
-rejection_text Check = about_text ends.Rejected
-rejection_text Describe = Some (codes "no file of declarations says the same")
-
--- what the ending of a run was about
-abbrev pub about : Tool → Ending → Option (List ℕ)
-about tool ends.Done = about_text ends.Done
-about tool ends.Refused = about_text ends.Refused
-about tool ends.Usage = about_text ends.Usage
-about tool ends.ReadFault = about_text ends.ReadFault
-about tool ends.WriteFault = about_text ends.WriteFault
-about tool ends.OutOfMemory = about_text ends.OutOfMemory
-about tool ends.TooLong = about_text ends.TooLong
-about tool ends.Rejected = rejection_text tool
+-- what an ending was about
+abbrev pub about_text : Ending → Option (List ℕ)
+about_text Done = None
+about_text Refused = Some (codes "the declarations are refused")
+about_text Usage = Some (codes "the words are no command: --help has the commands")
+about_text ReadFault = Some (codes "standard input could not be read")
+about_text WriteFault = Some (codes "standard output could not be written")
+about_text OutOfMemory = Some (codes "out of memory")
+about_text TooLong = Some (codes "standard input is longer than 1048576 bytes")
+about_text Rejected = Some (codes "the input is rejected")

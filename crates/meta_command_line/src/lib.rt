@@ -1,18 +1,22 @@
-//! What the words of the program `ciderlater` ask for, and what it says of them and of how a run ended.
+//! What each program over declarations does as a process: its words, `--help` and `--version`, the line on standard error, and the exit
+//! status.
 //!
-//! `Plan::of` says what is to be done. The program does it, and says what the other calls give.
+//! A program is a `Manual`, which is what it says of itself, and an `impl Program`, which is what it does with its words. Its `main` is a
+//! call of `start`.
 #![tactic(auto)]
 
-mod file_trouble;
-mod laws;
-mod plan;
-mod saying;
+mod asked;
+mod manual;
+mod misuse;
+mod program;
 mod telling;
-mod wrong;
+mod usage;
 
-pub use file_trouble::FileTrouble;
-pub use laws::{one_plan, one_wrong};
-pub use plan::Plan;
-pub use saying::wrong_line;
+pub use asked::Asked;
+pub use manual::{CommandForm, Manual, Range};
+pub use misuse::{Misuse, never_both};
+pub use program::{
+    Program, answer_of_itself, print_help, print_version, start, tell, tell_line, tell_wrong, words,
+};
 pub use telling::about;
-pub use wrong::Wrong;
+pub use usage::usage_line;

@@ -7,7 +7,7 @@ use Rattle.meta_lists.proofs.Places.{get_there}
 use Rattle.meta_settings.specs.GroupDeclaration.{GroupDeclaration}
 use Rattle.meta_settings.specs.LaidOut.{built_of}
 use Rattle.meta_setting_tables.specs.GroupTables.{GroupContents, AreTablesOfGroup}
-use Rattle.meta_declared.specs.AllDeclared.{Declared}
+use Rattle.meta_build.specs.AllDeclared.{Declared}
 use Rattle.meta_gen.specs.WholeTables.{WholeTables, AreWholeTablesOf, HasNoGroup}
 use Rattle.meta_flags.specs.Served.{served_in, served_of, initial}
 use Rattle.meta_flags.specs.FlagAnswers.{initial_of}

@@ -1,8 +1,8 @@
 -- The words of the lines that ask.
 use Rattle.std.proofs.Common.{◌≡◌, ◌≢◌, ℕ, ◌<◌, List, [], ◌∷◌, ◌++◌, length, All, get_or, refl, sym, ap, ◌∙◌, arith}
 use Rattle.std.proofs.lemmas.List.Elements.{All-weaker}
-use Rattle.meta_words.specs.Words.{IsWord, pieces_of}
-use Rattle.meta_words.proofs.WordLemmas.{words_pieces, are_words}
+use Rattle.meta_lines.specs.Words.{IsWord, pieces_of}
+use Rattle.meta_lines.proofs.WordLemmas.{words_pieces, are_words}
 use Rattle.meta_flags.specs.Request.{Request, Set, Enable, Get, Toml, request_words, Requests, command_word}
 use Rattle.meta_flags.specs.declared.request.RequestWord.{RequestWord}
 use Rattle.meta_flags.specs.declared.request.RequestWord.TheVariants as command

@@ -2,7 +2,7 @@
 --     AreFlagAnswers g state lines out       the answers, from these values on
 --     IsOutputOver g input out               the answers to the lines of an input, from the defaults on
 use Rattle.std.specs.Prelude.{◌≡◌, ℕ, ◌⊎◌, List, [], ◌∷◌, ◌++◌, Option, None, Some, Result, Err, codes}
-use Rattle.meta_words.specs.Lines.{lines_of}
+use Rattle.meta_lines.specs.Lines.{lines_of}
 use Rattle.meta_flags.specs.Served.{SettingValue, Served, State, initial}
 use Rattle.meta_flags.specs.Changes.{Sets, Enables, Gets}
 use Rattle.meta_flags.specs.Toml.{toml_text}

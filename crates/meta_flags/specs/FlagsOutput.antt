@@ -4,7 +4,7 @@ use Rattle.std.specs.Prelude.{ℕ, List, Option, slice_get}
 use Rattle.std.specs.Option.{option_map}
 use Rattle.meta_settings.specs.GroupDeclaration.{GroupDeclaration}
 use Rattle.meta_settings.specs.LaidOut.{built_of}
-use Rattle.meta_declared.specs.AllDeclared.{Declared}
+use Rattle.meta_build.specs.AllDeclared.{Declared}
 use Rattle.meta_flags.specs.Served.{Served, served_of}
 use Rattle.meta_flags.specs.FlagAnswers.{IsOutputOver}
 

@@ -1,7 +1,7 @@
 -- What a line asks of a service of settings.
 --     Requests line r        the line asks r
 use Rattle.std.specs.Prelude.{ℕ, List, [], ◌∷◌, codes}
-use Rattle.meta_words.specs.Words.{AreWords}
+use Rattle.meta_lines.specs.Words.{AreWords}
 use Rattle.meta_flags.specs.declared.request.RequestWord.{RequestWord}
 use Rattle.meta_flags.specs.declared.request.RequestWord.TheVariants as command
 use Rattle.meta_flags.specs.declared.request.Request as code

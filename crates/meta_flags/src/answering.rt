@@ -1,5 +1,5 @@
 ghost use Rattle.std.specs.Prelude.{◌≡◌, ◌++◌, ℕ, List, IfOk, OnOk, string_bytes};
-ghost use Rattle.meta_words.specs.Lines.{lines_of};
+ghost use Rattle.meta_lines.specs.Lines.{lines_of};
 ghost use Rattle.meta_flags.specs.Served.{served_in};
 ghost use Rattle.meta_flags.specs.Held.{got, value_of, served_by, state_of};
 ghost use Rattle.meta_flags.specs.Request.{request_of};
@@ -11,10 +11,9 @@ use super::flag_error::FlagError;
 use super::flag_value::FlagValue;
 use super::held::Flags;
 use super::request::Request;
-use meta_words::Lines;
+use meta_lines::Lines;
 use std::alloc::{AllocError, Global};
 
-/// Adds the line that answers a change.
 fn push_outcome(out: &mut String, outcome: Result<(), FlagError>) -> Result<(), AllocError>
     ensures { OnOk result (string_bytes out.new ≡ string_bytes out.old ++ change_line outcome) }
 {
@@ -98,7 +97,6 @@ fn push_answer(
     }
 }
 
-/// The answers to the lines of an input, from these values on.
 pub(crate) fn answers(
     alloc: Global,
     mut flags: Option<Flags<'_>>,

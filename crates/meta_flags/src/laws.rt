@@ -2,7 +2,7 @@ ghost use Rattle.std.specs.Prelude.{◌≡◌, ℕ, List};
 ghost use Rattle.meta_settings.specs.GroupDeclaration.{GroupDeclaration};
 ghost use Rattle.meta_settings.specs.LaidOut.{built_of};
 ghost use Rattle.meta_setting_tables.specs.GroupTables.{GroupContents, AreTablesOfGroup};
-ghost use Rattle.meta_declared.specs.AllDeclared.{Declared};
+ghost use Rattle.meta_build.specs.AllDeclared.{Declared};
 ghost use Rattle.meta_flags.specs.Served.{served_in, served_of};
 ghost use Rattle.meta_flags.specs.FlagsOutput.{IsFlagsOutput};
 

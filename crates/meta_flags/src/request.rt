@@ -3,9 +3,8 @@ ghost use Rattle.meta_flags.specs.Request.{request_of, request_words, Requests, 
 ghost use Rattle.meta_flags.specs.Request as spec;
 ghost use Rattle.meta_flags.specs.declared.request.RequestWord as declared;
 
-use meta_words::Pieces;
+use meta_lines::Pieces;
 
-/// What a line asks of the service.
 #[derive(Clone, Copy)]
 pub(crate) enum Request<'l> {
     /// `set NAME VALUE`: that the setting gets the value.
@@ -18,7 +17,6 @@ pub(crate) enum Request<'l> {
     Toml,
 }
 
-/// The first word of a line that asks.
 #[derive(Clone, Copy)]
 enum RequestWord {
     Set,

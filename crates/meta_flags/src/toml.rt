@@ -10,7 +10,6 @@ use meta_text::{Sink, WriteError, write_whole};
 use meta_types::Text;
 use std::alloc::{AllocError, Global};
 
-/// Adds the line of a setting.
 pub(crate) fn push_line(
     out: &mut String,
     name: &Text,

@@ -7,9 +7,9 @@ ghost use Rattle.meta_flags.specs.Changes.{IsText, with_marked_true};
 ghost use Rattle.meta_flags.specs.Held.{value_of};
 
 use super::flag_value::FlagValue;
+use meta_lines::number_u8;
 use meta_setting_tables::{Descriptor, Detail, GroupTables};
 use meta_types::Text;
-use meta_words::number_u8;
 
 /// The default of an entry of a group. It is `None` for a preset.
 pub(crate) fn default_of<'t>(
@@ -35,7 +35,6 @@ pub(crate) fn default_of<'t>(
     }
 }
 
-/// The truth value that a word writes, if it writes one.
 fn truth_in(word: &[u8]) -> Option<bool>
     ensures some { IfSome result (λ b. (d : Bool) → IsText (BoolKind d) word.now (BoolValue b)) }
     ensures none { IfNone result ((d : Bool) (v : SettingValue) → ¬ IsText (BoolKind d) word.now v) }
@@ -62,7 +61,6 @@ fn named<'t>(texts: &'t [Text], name: &[u8]) -> Option<&'t Text>
     None
 }
 
-/// The value of an entry of a group that a word writes, if it writes one.
 pub(crate) fn value_in<'t>(
     group: &'t GroupTables,
     index: u16,

@@ -6,7 +6,7 @@ use Rattle.meta_lists.proofs.Places.{get_there}
 use Rattle.meta_types.specs.SharedNames.{AreDifferentNames}
 use Rattle.meta_settings.specs.Layout.{Layout}
 use Rattle.meta_settings.specs.LaidOut.{built_of}
-use Rattle.meta_declared.specs.AllDeclared.{Declared}
+use Rattle.meta_build.specs.AllDeclared.{Declared}
 use Rattle.meta_setting_tables.specs.FoundSetting.{entry_names}
 use Rattle.meta_setting_tables.specs.GroupTables.{GroupContents, AreTablesOfGroup}
 use Rattle.meta_gen.specs.WholeTables.{WholeTables, OfGroup, HasNoGroup, AreWholeTablesOf, FindsSetting}

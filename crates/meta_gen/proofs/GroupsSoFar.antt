@@ -10,7 +10,7 @@ use Rattle.meta_settings.specs.GroupDeclaration.{GroupDeclaration}
 use Rattle.meta_settings.specs.GroupFaults.{IsValidGroup}
 use Rattle.meta_settings.specs.Layout.{Layout}
 use Rattle.meta_settings.specs.LaidOut.{built_of}
-use Rattle.meta_declared.specs.AllDeclared.{AreValidGroups}
+use Rattle.meta_build.specs.AllDeclared.{AreValidGroups}
 use Rattle.meta_setting_tables.specs.BuiltLayout.{IsBuiltLayout}
 use Rattle.meta_setting_tables.specs.GroupTables.{GroupContents, AreTablesOfGroup}
 use Rattle.meta_setting_tables.specs.WellFormed.{IsWellFormedGroup}

@@ -10,10 +10,10 @@ use Rattle.meta_inst.specs.Builder.{Builder}
 use Rattle.meta_inst.specs.Instruction.{Instruction}
 use Rattle.meta_inst.specs.InstructionSet.{InstructionSet, root_sets, instruction_in_set}
 use Rattle.meta_inst.specs.Faults.{IsAt, names_of}
-use Rattle.meta_meaning.specs.Acceptance.{Accepts, AcceptsNumbers, IsNumberOf}
-use Rattle.meta_meaning.specs.Tables.{TableContents, at_opcode, Allows}
+use Rattle.meta_inst.specs.Acceptance.{Accepts, AcceptsNumbers, IsNumberOf}
+use Rattle.meta_inst.specs.Tables.{TableContents, at_opcode, Allows}
 use Rattle.meta_types.proofs.Numbers.{one_number}
-use Rattle.meta_opcode_tables.specs.TablesOf.{AreTablesOf, AcceptsOpcode}
+use Rattle.meta_gen.specs.TablesOf.{AreTablesOf, AcceptsOpcode}
 use Rattle.meta_gen.specs.Question.{Question}
 use Rattle.meta_gen.specs.Reply.{AllowsAsked, AllowedReply, AcceptsAsked, AcceptedReply}
 use Rattle.meta_gen.specs.declared.reply.Reply.{Reply}

@@ -3,13 +3,13 @@ use Rattle.std.proofs.Common.{◌≡◌, ◌<◌, ℕ, List, Some, sym, ap, ◌�
 use Rattle.meta_lists.proofs.Places.{get_there, same_places}
 use Rattle.meta_typevar.specs.Registry.{HoldTypeSets}
 use Rattle.meta_inst.specs.InstructionSet.{InstructionSet}
-use Rattle.meta_meaning.specs.Tables.{TableContents}
+use Rattle.meta_inst.specs.Tables.{TableContents}
 use Rattle.meta_settings.specs.GroupDeclaration.{GroupDeclaration}
 use Rattle.meta_settings.specs.Layout.{Layout}
 use Rattle.meta_settings.specs.LaidOut.{built_of}
 use Rattle.meta_setting_tables.specs.GroupTables.{GroupContents, AreTablesOfGroup}
-use Rattle.meta_declared.specs.AllDeclared.{Declared}
-use Rattle.meta_opcode_tables.specs.TablesOf.{AreTablesOf}
+use Rattle.meta_build.specs.AllDeclared.{Declared}
+use Rattle.meta_gen.specs.TablesOf.{AreTablesOf}
 use Rattle.meta_gen.specs.WholeTables.{WholeTables, AreTablesOfGroups, AreWholeTablesOf}
 use Rattle.meta_gen.proofs.OneWhole.{same_whole}
 

@@ -6,8 +6,8 @@ use Rattle.meta_lists.proofs.Mapped.{get_map}
 use Rattle.meta_inst.specs.Builder.{Builder}
 use Rattle.meta_inst.specs.InstructionSet.{InstructionSet}
 use Rattle.meta_inst.specs.Faults.{IsAt, names_of, IsValid}
-use Rattle.meta_meaning.specs.Tables.{TableContents}
-use Rattle.meta_declared.proofs.DifferentNames.{different_names}
+use Rattle.meta_inst.specs.Tables.{TableContents}
+use Rattle.meta_build.proofs.DifferentNames.{different_names}
 use Rattle.meta_gen.specs.Question.{Question}
 use Rattle.meta_gen.specs.Reply.{AllowsAsked, AllowedReply, AcceptsAsked, IsAskedFor, AcceptedReply}
 use Rattle.meta_gen.specs.declared.reply.Reply.{Reply}

@@ -3,10 +3,10 @@ use Rattle.std.proofs.Common.{◌≡◌, ◌<◌, ℕ, List, All, Some, sym, ap,
 use Rattle.meta_lists.proofs.Everywhere.{at_place}
 use Rattle.meta_lists.proofs.Places.{get_there, same_places}
 use Rattle.meta_typevar.specs.declared.masks.Masks.{Masks}
-use Rattle.meta_meaning.specs.Tables.{TableContents}
-use Rattle.meta_opcode_tables.specs.WellFormed.{IsWellFormedOpcodes, HaveParts}
-use Rattle.meta_opcode_tables.specs.declared.constraint.Constraint.{Constraint}
-use Rattle.meta_opcode_tables.specs.declared.constraint.OpcodeConstraints.{OpcodeConstraints}
+use Rattle.meta_inst.specs.Tables.{TableContents}
+use Rattle.meta_gen.specs.WellFormedOpcodes.{IsWellFormedOpcodes, HaveParts}
+use Rattle.meta_gen.specs.declared.constraint.Constraint.{Constraint}
+use Rattle.meta_gen.specs.declared.constraint.OpcodeConstraints.{OpcodeConstraints}
 use Rattle.meta_setting_tables.specs.declared.parts.GroupParts.{GroupParts}
 use Rattle.meta_setting_tables.specs.GroupTables.{GroupContents}
 use Rattle.meta_setting_tables.specs.WellFormed.{IsWellFormedGroup}

@@ -1,3 +1,14 @@
+pub mod Constraint
+pub mod Demand
+pub mod ConstraintLists
+pub mod Entries
+pub mod MaskParts
+pub mod WellFormedOpcodes
+pub mod Contents
+pub mod TablesOf
+pub mod Found
+pub mod Inferred
+pub mod InfersResults
 pub mod WholeTables
 pub mod WellFormed
 pub mod Parts

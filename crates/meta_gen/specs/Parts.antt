@@ -1,7 +1,7 @@
 -- The parts of whole tables: all but the slots, which follow from the names.
 --     HasParts parts t      the tables have these parts
 use Rattle.std.specs.Prelude.{◌≡◌, ℕ, List, length, slice_get, Some}
-use Rattle.meta_opcode_tables.specs.WellFormed.{HaveParts}
+use Rattle.meta_gen.specs.WellFormedOpcodes.{HaveParts}
 use Rattle.meta_setting_tables.specs.declared.parts.GroupParts.{GroupParts}
 use Rattle.meta_setting_tables.specs.GroupTables.{GroupContents}
 use Rattle.meta_setting_tables.specs.Parts.{HasGroupParts}

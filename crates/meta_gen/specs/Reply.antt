@@ -10,9 +10,9 @@ use Rattle.meta_inst.specs.Builder.{Builder}
 use Rattle.meta_inst.specs.Control.{IsControl}
 use Rattle.meta_inst.specs.InstructionSet.{InstructionSet, root_sets, instruction_in_set}
 use Rattle.meta_inst.specs.Faults.{IsAt}
-use Rattle.meta_meaning.specs.Acceptance.{Accepts}
-use Rattle.meta_meaning.specs.Tables.{TableContents, at_opcode, Allows}
-use Rattle.meta_opcode_tables.specs.Contents.{IsOpcodeNamed}
+use Rattle.meta_inst.specs.Acceptance.{Accepts}
+use Rattle.meta_inst.specs.Tables.{TableContents, at_opcode, Allows}
+use Rattle.meta_gen.specs.Contents.{IsOpcodeNamed}
 use Rattle.meta_gen.specs.Question.{Question}
 use Rattle.meta_gen.specs.declared.reply.Reply.{Reply}
 use Rattle.meta_gen.specs.declared.reply.Reply.TheVariants.{Accept, Refuse, Unknown, Bad, Results, Setting}

@@ -1,6 +1,6 @@
 -- Well-formed whole tables.
 use Rattle.std.specs.Prelude.{All}
-use Rattle.meta_opcode_tables.specs.WellFormed.{IsWellFormedOpcodes}
+use Rattle.meta_gen.specs.WellFormedOpcodes.{IsWellFormedOpcodes}
 use Rattle.meta_setting_tables.specs.WellFormed.{IsWellFormedGroup}
 use Rattle.meta_gen.specs.WholeTables.{WholeTables}
 

@@ -2,13 +2,13 @@
 --     AreWholeTablesOf d t       they are those of the declarations
 use Rattle.std.specs.Prelude.{◌≡◌, ◌↔◌, ℕ, List, length, slice_get, Option, None, Some}
 use Rattle.std.specs.Option.{option_map}
-use Rattle.meta_meaning.specs.Tables.{TableContents}
+use Rattle.meta_inst.specs.Tables.{TableContents}
 use Rattle.meta_settings.specs.GroupDeclaration.{GroupDeclaration}
 use Rattle.meta_settings.specs.LaidOut.{built_of}
-use Rattle.meta_opcode_tables.specs.TablesOf.{AreTablesOf}
+use Rattle.meta_gen.specs.TablesOf.{AreTablesOf}
 use Rattle.meta_setting_tables.specs.GroupTables.{GroupContents, AreTablesOfGroup}
 use Rattle.meta_setting_tables.specs.FoundSetting.{entry_names}
-use Rattle.meta_declared.specs.AllDeclared.{Declared, AreValidGroups}
+use Rattle.meta_build.specs.AllDeclared.{Declared, AreValidGroups}
 
 -- the tables of the opcodes, and those of the groups in order
 pub record WholeTables : Type 0 where

@@ -1,20 +1,20 @@
 ghost use Rattle.std.specs.Prelude.{◌≡◌, ◌≢◌, ◌↔◌, ℕ, List, Option, IfOk, IfErr, OnOk, All, length, slice_get, Some};
 ghost use Rattle.meta_types.specs.declared.fault.DefinitionError.TheVariants.{OutOfMemory};
-ghost use Rattle.meta_meaning.specs.Inference.{GivesResults};
-ghost use Rattle.meta_meaning.specs.Tables.{Allows};
+ghost use Rattle.meta_inst.specs.Inference.{GivesResults};
+ghost use Rattle.meta_inst.specs.Tables.{Allows};
 ghost use Rattle.meta_settings.specs.Layout.{Layout};
 ghost use Rattle.meta_setting_tables.specs.BuiltLayout.{IsBuiltLayout};
 ghost use Rattle.meta_setting_tables.specs.GroupTables.{GroupContents, AreTablesOfGroup};
 ghost use Rattle.meta_setting_tables.specs.WellFormed.{IsWellFormedGroup};
-ghost use Rattle.meta_declared.specs.AllDeclared.{ShowsFirst, AreValid};
-ghost use Rattle.meta_opcode_tables.specs.Inferred.{InfersOpcode};
-ghost use Rattle.meta_opcode_tables.specs.TablesOf.{AcceptsOpcode};
+ghost use Rattle.meta_build.specs.AllDeclared.{ShowsFirst, AreValid};
+ghost use Rattle.meta_gen.specs.Inferred.{InfersOpcode};
+ghost use Rattle.meta_gen.specs.TablesOf.{AcceptsOpcode};
 ghost use Rattle.meta_gen.specs.WholeTables.{AreWholeTablesOf};
 ghost use Rattle.meta_gen.specs.WellFormed.{IsWellFormed};
 
+use super::opcode_tables::OpcodeTables;
 use super::tables::Tables;
-use meta_declared::{Built, Declarations, build_all};
-use meta_opcode_tables::OpcodeTables;
+use meta_build::{Built, Declarations, build_all};
 use meta_setting_tables::{GroupTables, built_groups_have_tables};
 use meta_settings::SettingGroup;
 use meta_types::DefinitionError;

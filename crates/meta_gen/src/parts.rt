@@ -6,10 +6,10 @@ ghost use Rattle.meta_gen.specs.Parts.{HaveGroupParts, HasParts};
 ghost use Rattle.meta_gen.specs.WellFormed.{IsWellFormed};
 ghost use Rattle.meta_gen.specs.WholeTables.{WholeTables};
 
+use super::constraint::{Constraint, OpcodeConstraints};
+use super::opcode_laws::one_table_has_the_parts;
+use super::opcode_parts::opcodes_from_parts;
 use super::tables::Tables;
-use meta_opcode_tables::{
-    Constraint, OpcodeConstraints, one_table_has_the_parts, opcodes_from_parts,
-};
 use meta_setting_tables::{GroupParts, GroupTables, group_from_parts, one_group_has_the_parts};
 use meta_types::Text;
 use meta_typevar::Masks;
@@ -32,7 +32,6 @@ pub struct TableParts {
     pub groups: Vec<GroupParts>,
 }
 
-/// The tables of groups with these parts, in order. `None` if some group's parts are those of no well-formed tables.
 fn groups_from_parts(
     alloc: Global,
     parts: Vec<GroupParts>,

@@ -5,27 +5,28 @@ ghost use Rattle.meta_lists.specs.First.{IsFirst};
 ghost use Rattle.meta_typevar.specs.Registry.{HoldTypeSets};
 ghost use Rattle.meta_inst.specs.InstructionSet.{InstructionSet};
 ghost use Rattle.meta_settings.specs.Layout.{Layout};
-ghost use Rattle.meta_meaning.specs.Tables.{at_opcode, Allows};
-ghost use Rattle.meta_opcode_tables.specs.TablesOf.{AreTablesOf, AcceptsOpcode};
-ghost use Rattle.meta_opcode_tables.specs.Constraint.{number_constraint_of, entry_of};
-ghost use Rattle.meta_opcode_tables.specs.Contents.{IsOpcode, IsOpcodeNamed};
-ghost use Rattle.meta_meaning.specs.Inference.{GivesResults};
-ghost use Rattle.meta_opcode_tables.specs.Found.{IsDeclaredAs, FindsName};
-ghost use Rattle.meta_opcode_tables.specs.Inferred.{InfersControl, InfersOpcode, HasControlType};
+ghost use Rattle.meta_inst.specs.Tables.{at_opcode, Allows};
+ghost use Rattle.meta_gen.specs.TablesOf.{AreTablesOf, AcceptsOpcode};
+ghost use Rattle.meta_gen.specs.Constraint.{number_constraint_of, entry_of};
+ghost use Rattle.meta_gen.specs.Contents.{IsOpcode, IsOpcodeNamed};
+ghost use Rattle.meta_gen.specs.Found.{IsDeclaredAs, FindsName};
+ghost use Rattle.meta_gen.specs.Inferred.{InfersControl, HasControlType};
+ghost use Rattle.meta_gen.specs.InfersResults.{InfersResults};
 ghost use Rattle.meta_setting_tables.specs.declared.descriptor.Descriptor.{Descriptor};
 ghost use Rattle.meta_setting_tables.specs.Descriptor.{DescribesEntry};
 ghost use Rattle.meta_unique.specs.NameSlots.{AreNameSlots, IsNameLookup};
 ghost use Rattle.meta_setting_tables.specs.FoundSetting.{laid_entry_count, FindsEntry};
 ghost use Rattle.meta_setting_tables.specs.PresetMasks.{AreJoined};
 ghost use Rattle.meta_setting_tables.specs.GroupTables.{names_in, IsPresetIn, AreTablesOfGroup, default_in, AnswersDefault, Applies};
-ghost use Rattle.meta_declared.specs.AllDeclared.{Declared};
-ghost use Rattle.meta_opcode_tables.specs.WellFormed.{IsWellFormedOpcodes};
+ghost use Rattle.meta_build.specs.AllDeclared.{Declared};
+ghost use Rattle.meta_gen.specs.WellFormedOpcodes.{IsWellFormedOpcodes};
 ghost use Rattle.meta_setting_tables.specs.WellFormed.{IsWellFormedGroup};
 ghost use Rattle.meta_gen.specs.WellFormed.{IsWellFormed};
 ghost use Rattle.meta_gen.specs.WholeTables.{OfGroup, HasNoGroup, part_in, AreWholeTablesOf, FindsSetting};
 
+use super::constraint::{Constraint, OpcodeConstraints};
+use super::opcode_tables::OpcodeTables;
 use super::same::same_groups;
-use meta_opcode_tables::{Constraint, OpcodeConstraints, OpcodeTables};
 use meta_setting_tables::{Descriptor, GroupTables};
 use meta_types::Text;
 use meta_typevar::Masks;
@@ -57,7 +58,6 @@ impl Model for Tables {
 }
 
 impl Tables {
-    /// The tables with these parts.
     pub(crate) fn new(opcodes: OpcodeTables, groups: Vec<GroupTables>) -> Tables
         requires opcodes { IsWellFormedOpcodes opcodes }
         requires groups { All IsWellFormedGroup groups.items }
@@ -214,18 +214,7 @@ impl Tables {
 
     /// Infers the types of the results, as `infer_results2`, without a second controlling type.
     pub fn infer_results(&self, opcode: u16, ctrl: Option<u16>, out: &mut [u16; 7]) -> Option<usize>
-        ensures given { IfSome result (λ count. GivesResults self.now.opcodes opcode ctrl None (take count out.new)) }
-        ensures few { IfSome result (λ count. count ≤ 7) }
-        ensures rest { IfSome result (λ count. drop count out.new ≡ drop count out.old) }
-        ensures none { IfNone result ((numbers : List ℕ) → ¬ GivesResults self.now.opcodes opcode ctrl None numbers) }
-        ensures unchanged { IfNone result (out.new ≡ out.old) }
-        ensures meaning { (d : InstructionSet) → HoldTypeSets d.vars → AreTablesOf d self.now.opcodes
-            → IfSome result (λ count. InfersOpcode d opcode ctrl None (take count out.new)) }
-        ensures refused { (d : InstructionSet) → HoldTypeSets d.vars → AreTablesOf d self.now.opcodes
-            → IfNone result ((numbers : List ℕ) → ¬ InfersOpcode d opcode ctrl None numbers) }
-        ensures accepted { IfSome result (λ count. (rs vs : List ℕ) → Allows self.now.opcodes opcode ctrl None rs vs
-            → (k m n : ℕ) → slice_get (take count out.new) k ≡ Some n → n ≢ 0 → slice_get rs k ≡ Some m → m ≡ n) }
-        ensures unaccepted { IfNone result ((rs vs : List ℕ) → ¬ Allows self.now.opcodes opcode ctrl None rs vs) }
+        ensures { InfersResults self.now.opcodes opcode ctrl None out.old result out.new }
     {
         self.opcodes.infer_results(opcode, ctrl, out)
     }
@@ -240,18 +229,7 @@ impl Tables {
         second: Option<u16>,
         out: &mut [u16; 7],
     ) -> Option<usize>
-        ensures given { IfSome result (λ count. GivesResults self.now.opcodes opcode ctrl second (take count out.new)) }
-        ensures few { IfSome result (λ count. count ≤ 7) }
-        ensures rest { IfSome result (λ count. drop count out.new ≡ drop count out.old) }
-        ensures none { IfNone result ((numbers : List ℕ) → ¬ GivesResults self.now.opcodes opcode ctrl second numbers) }
-        ensures unchanged { IfNone result (out.new ≡ out.old) }
-        ensures meaning { (d : InstructionSet) → HoldTypeSets d.vars → AreTablesOf d self.now.opcodes
-            → IfSome result (λ count. InfersOpcode d opcode ctrl second (take count out.new)) }
-        ensures refused { (d : InstructionSet) → HoldTypeSets d.vars → AreTablesOf d self.now.opcodes
-            → IfNone result ((numbers : List ℕ) → ¬ InfersOpcode d opcode ctrl second numbers) }
-        ensures accepted { IfSome result (λ count. (rs vs : List ℕ) → Allows self.now.opcodes opcode ctrl second rs vs
-            → (k m n : ℕ) → slice_get (take count out.new) k ≡ Some n → n ≢ 0 → slice_get rs k ≡ Some m → m ≡ n) }
-        ensures unaccepted { IfNone result ((rs vs : List ℕ) → ¬ Allows self.now.opcodes opcode ctrl second rs vs) }
+        ensures { InfersResults self.now.opcodes opcode ctrl second out.old result out.new }
     {
         self.opcodes.infer_results2(opcode, ctrl, second, out)
     }

@@ -13,3 +13,8 @@ pub mod InstructionFaults
 pub mod Faults
 pub mod FoundControl
 pub mod Content
+pub mod Acceptance
+pub mod Constraint
+pub mod Inference
+pub mod OneControl
+pub mod Tables

@@ -14,7 +14,7 @@ ghost use Rattle.meta_inst.specs.InstructionFaults.{TakesNoImmediate, ControlRul
 ghost use Rattle.meta_inst.specs.FormatMatch.{is_value_operand};
 ghost use Rattle.meta_inst.specs.Content.{places_where, operand_list, content_of, IsPolymorphicInfoOf};
 
-use super::checks::{bad_output, takes_no_immediate, too_many};
+use super::checks::{bad_output, too_many};
 use super::content::{InstructionContent, copied_operands, immediate_places, value_places};
 use super::format_match::matches_format;
 use super::marks::Marks;
@@ -38,7 +38,6 @@ pub struct InstructionBuilder {
     second: Option<TypeVar>,
 }
 
-/// The texts of an instruction that is built.
 #[derive(Drop)]
 struct Texts {
     name: Text,
@@ -54,7 +53,6 @@ struct Places {
     value_results: Vec<usize>,
 }
 
-/// The operands of an instruction that is built.
 #[derive(Drop)]
 struct OperandLists {
     inputs: Vec<Operand>,
@@ -284,8 +282,10 @@ impl InstructionBuilder {
         if !are_operands_of(vars, self.outputs()) {
             return false;
         }
-        if !is_second_of(vars, self.second) {
-            return false;
+        if let Some(second) = self.second {
+            if !vars.is_of(second) {
+                return false;
+            }
         }
         are_operands_of(vars, self.inputs())
     }
@@ -297,7 +297,10 @@ impl InstructionBuilder {
         if !self.marks.inst_builder_imm_method {
             return false;
         }
-        takes_no_immediate(format, results, values)
+        if format.has_value_list {
+            return true;
+        }
+        results != 1 || values < 2
     }
 
     /// The first fault of the instruction's form: a bad name, a bad output, or inputs that don't match the format. The types of operands
@@ -357,7 +360,6 @@ impl InstructionBuilder {
         None
     }
 
-    /// Copies of the name and the documentation, and the name in camel case.
     fn texts(&self, alloc: Global) -> Result<Texts, AllocError>
         ensures name { IfOk result (λ t. t.name ≡ self.now.name) }
         ensures camel_name { IfOk result (λ t. t.camel_name ≡ camel_case_of self.now.name) }
@@ -370,7 +372,6 @@ impl InstructionBuilder {
         })
     }
 
-    /// The places of the values and immediates.
     fn places(&self, alloc: Global) -> Result<Places, AllocError>
         ensures value_opnums { IfOk result (λ p. p.value_opnums.items ≡ places_where is_value_operand (inputs_of self.now)) }
         ensures imm_opnums { IfOk result (λ p. p.imm_opnums.items ≡ places_where is_immediate_or_entityref_operand (inputs_of self.now)) }
@@ -393,7 +394,6 @@ impl InstructionBuilder {
         })
     }
 
-    /// The built instruction, of its value operands and what is kept of its control.
     fn content(
         &self,
         alloc: Global,
@@ -452,17 +452,6 @@ impl InstructionBuilder {
     }
 }
 
-/// Whether the second control is of the registry if one is named.
-fn is_second_of(vars: &TypeVars, second: Option<TypeVar>) -> bool
-    ensures { IsTrue result ↔ SecondIsOf vars.now second }
-{
-    match second {
-        Some(tv) => vars.is_of(tv),
-        None => true,
-    }
-}
-
-/// Whether the variable of the operand is of the registry if the operand is a value.
 fn is_operand_of(vars: &TypeVars, operand: &Operand) -> bool
     ensures { IsTrue result ↔ AreOf vars.now (variables_of (operand.now ∷ [])) }
 {

@@ -1,8 +1,8 @@
-ghost use Rattle.std.specs.Prelude.{◌≡◌, ◌↔◌, ℕ, IsTrue, IfSome, IfNone};
+ghost use Rattle.std.specs.Prelude.{◌≡◌, ℕ, IfSome, IfNone};
 ghost use Rattle.std.specs.List.{position};
-ghost use Rattle.meta_inst.specs.InstructionFaults.{is_bad_output, AreTooMany, TakesNoImmediate};
+ghost use Rattle.meta_inst.specs.InstructionFaults.{is_bad_output, AreTooMany};
 
-use meta_operands::{InstructionFormat, Operand};
+use meta_operands::Operand;
 
 /// The most value results, and the most value inputs, of an instruction: each count has three bits in the tables.
 pub(crate) const MAX_OPERANDS: usize = 7;
@@ -28,14 +28,4 @@ pub(crate) fn too_many(results: usize, values: usize) -> Option<usize>
         return Some(values);
     }
     None
-}
-
-/// Whether no method can take an immediate for the last value input.
-pub(crate) fn takes_no_immediate(format: &InstructionFormat, results: usize, values: usize) -> bool
-    ensures { IsTrue result ↔ TakesNoImmediate format.now results values }
-{
-    if format.has_value_list {
-        return true;
-    }
-    results != 1 || values < 2
 }

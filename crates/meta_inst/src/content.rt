@@ -57,7 +57,6 @@ impl Model for InstructionContent {
     } };
 }
 
-/// Adds the place if `holds`.
 fn push_place(places: &mut Vec<usize>, place: usize, holds: bool) -> Result<(), AllocError>
     ensures { OnOk result (places.new.items ≡ (if holds then (places.old.items ++ place ∷ []) else places.old.items)) }
 {
@@ -67,7 +66,6 @@ fn push_place(places: &mut Vec<usize>, place: usize, holds: bool) -> Result<(), 
     Ok(())
 }
 
-/// The places of the operands that are values, in order.
 pub(crate) fn value_places(alloc: Global, operands: &[Operand]) -> Result<Vec<usize>, AllocError>
     ensures { IfOk result (λ v. v.items ≡ places_where is_value_operand operands.now) }
 {
@@ -96,7 +94,6 @@ pub(crate) fn immediate_places(
     Ok(places)
 }
 
-/// A copy of the operands.
 pub(crate) fn copied_operands(
     alloc: Global,
     operands: &[Operand],
@@ -287,7 +284,6 @@ impl InstructionContent {
     }
 }
 
-/// Writes the names of operands after the first.
 fn write_more<W: fmt::Write>(f: &mut fmt::Formatter<W>, operands: &[Operand]) -> fmt::Result
     ensures { DisplaysOnOk W.write_str_gives f.old result (Some (more_names_text operands.now)) f.new }
 {
@@ -298,7 +294,6 @@ fn write_more<W: fmt::Write>(f: &mut fmt::Formatter<W>, operands: &[Operand]) ->
     Ok(())
 }
 
-/// Writes the outputs, which stand before the name.
 fn write_outputs<W: fmt::Write>(f: &mut fmt::Formatter<W>, operands: &[Operand]) -> fmt::Result
     ensures { DisplaysOnOk W.write_str_gives f.old result (Some (outputs_text operands.now)) f.new }
 {
@@ -310,7 +305,6 @@ fn write_outputs<W: fmt::Write>(f: &mut fmt::Formatter<W>, operands: &[Operand])
     f.write_str(" = ")
 }
 
-/// Writes the inputs, which stand after the name.
 fn write_inputs<W: fmt::Write>(f: &mut fmt::Formatter<W>, operands: &[Operand]) -> fmt::Result
     ensures { DisplaysOnOk W.write_str_gives f.old result (Some (inputs_text operands.now)) f.new }
 {

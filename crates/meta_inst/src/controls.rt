@@ -34,7 +34,6 @@ impl Model for Controls {
     ghost inverse = { λ f. record { first = f First; second = f Second } };
 }
 
-/// Whether the variable is this control.
 fn is_named(control: &Option<TypeVar>, tv: TypeVar) -> bool
     ensures { IsTrue result ↔ (control.now ≡ Some tv) }
 {

@@ -1,12 +1,11 @@
 ghost use Rattle.std.specs.Prelude.{◌≡◌, ◌↔◌, ◌++◌, ◌∷◌, [], ℕ, List, IsTrue, IfSome, IfNone, count_by, map};
 ghost use Rattle.std.specs.List.{list_any};
 ghost use Rattle.meta_operands.specs.Operand.{is_varargs_operand};
-ghost use Rattle.meta_inst.specs.FormatMatch.{is_value_operand, is_block_operand, is_raw_block_operand, is_field_operand, field_names};
+ghost use Rattle.meta_inst.specs.FormatMatch.{is_value_operand, is_block_operand, is_raw_block_operand, field_names};
 ghost use Rattle.meta_inst.specs.FormatMatch.{format_field_name, MatchesFormat};
 
 use meta_operands::{FormatField, InstructionFormat, Operand};
 
-/// How many of the operands are values.
 fn value_count(operands: &[Operand]) -> usize
     ensures { result ≡ count_by is_value_operand operands.now }
 {
@@ -19,7 +18,6 @@ fn value_count(operands: &[Operand]) -> usize
     count
 }
 
-/// How many of the operands are blocks with arguments.
 fn block_count(operands: &[Operand]) -> usize
     ensures { result ≡ count_by is_block_operand operands.now }
 {
@@ -32,7 +30,6 @@ fn block_count(operands: &[Operand]) -> usize
     count
 }
 
-/// How many of the operands are blocks without arguments.
 fn raw_block_count(operands: &[Operand]) -> usize
     ensures { result ≡ count_by is_raw_block_operand operands.now }
 {
@@ -45,19 +42,10 @@ fn raw_block_count(operands: &[Operand]) -> usize
     count
 }
 
-/// Whether some operand is a variable number of values.
 fn has_varargs(operands: &[Operand]) -> bool
     ensures { result ≡ list_any is_varargs_operand operands.now }
 {
     operands.iter().any(|o| o.is_varargs())
-}
-
-/// Whether a field of a format holds the operand.
-fn is_field(operand: &Operand) -> bool
-    ensures { result ≡ is_field_operand operand.now }
-{
-    !operand.kind.is_block()
-        && (!operand.kind.is_raw_block() && operand.is_immediate_or_entityref())
 }
 
 /// The fields that are left after the one that holds the operand, or all if no field holds it. `None` if the first field isn't the one that
@@ -68,7 +56,8 @@ fn fields_after<'a>(fields: &'a [FormatField], operand: &Operand) -> Option<&'a 
     ensures other { IfNone result ((names : List (List ℕ))
         → field_names (operand.now ∷ []) ++ names ≡ map format_field_name fields.now → ⊥) }
 {
-    if !is_field(operand) {
+    let kind = &operand.kind;
+    if kind.is_block() || kind.is_raw_block() || !operand.is_immediate_or_entityref() {
         return Some(fields);
     }
     let (field, rest) = fields.split_first()?;

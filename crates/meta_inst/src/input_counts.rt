@@ -14,7 +14,6 @@ pub(crate) struct InputCounts {
 }
 
 impl InputCounts {
-    /// Counts the variables of the inputs.
     pub(crate) fn of(alloc: Global, inputs: &[TypeVar]) -> Result<InputCounts, AllocError>
         ensures { IfOk result (λ c. AreInputCounts inputs.now (get nat_cmp c.counts)) }
     {
@@ -26,7 +25,6 @@ impl InputCounts {
         Ok(InputCounts { counts })
     }
 
-    /// Whether the variable stands at exactly one input.
     pub(crate) fn is_once(&self, tv: TypeVar) -> bool
         ensures { IsTrue result ↔ (get nat_cmp self.now.counts tv ≡ Some 1) }
     {

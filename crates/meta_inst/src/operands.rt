@@ -30,7 +30,6 @@ use std::marker::Model;
 /// How many value operands have room at first. Few instructions have more.
 const FEW_OPERANDS: usize = 8;
 
-/// Adds the type variables of the value operands, in order.
 fn push_variables(out: &mut Vec<TypeVar>, operands: &[Operand]) -> Result<(), AllocError>
     ensures { OnOk result (out.new.items ≡ out.old.items ++ variables_of operands.now) }
 {
@@ -40,7 +39,6 @@ fn push_variables(out: &mut Vec<TypeVar>, operands: &[Operand]) -> Result<(), Al
     Ok(())
 }
 
-/// Adds the type variable of the operand if the operand is a value.
 fn push_variable(out: &mut Vec<TypeVar>, operand: &Operand) -> Result<(), AllocError>
     ensures { OnOk result (out.new.items ≡ out.old.items ++ variables_of (operand.now ∷ [])) }
 {
@@ -50,7 +48,6 @@ fn push_variable(out: &mut Vec<TypeVar>, operand: &Operand) -> Result<(), AllocE
     Ok(())
 }
 
-/// Whether there is a first operand and it is a value.
 fn begins_with_value(operands: &[Operand]) -> bool
     ensures { result ≡ begins_with_value operands.now }
 {
@@ -60,7 +57,6 @@ fn begins_with_value(operands: &[Operand]) -> bool
     }
 }
 
-/// Whether the variable's root can have one type only.
 fn has_one_type(vars: &TypeVars, tv: TypeVar) -> bool
     requires { tv < length vars.now }
     ensures { IsTrue result ↔ HasOneType vars.now tv }
@@ -68,7 +64,6 @@ fn has_one_type(vars: &TypeVars, tv: TypeVar) -> bool
     tv.root(vars).fixed_type(vars).is_some()
 }
 
-/// Whether the variable has no parent.
 fn is_underived(vars: &TypeVars, tv: TypeVar) -> bool
     requires { tv < length vars.now }
     ensures { IsTrue result ↔ ((variable_at vars.now tv).chain ≡ []) }
@@ -100,7 +95,6 @@ fn counted_inputs(alloc: Global, inputs: &[TypeVar]) -> Result<Option<InputCount
     Ok(Some(InputCounts::of(alloc, inputs)?))
 }
 
-/// Whether the variable at this place allows these controls.
 fn lets_control(vars: &TypeVars, operands: &Operands, controls: &Controls, place: usize) -> bool
     requires variables { AreOf vars.now operands.now.variables }
     requires within { place < length operands.now.variables }
@@ -138,7 +132,6 @@ fn may_control(vars: &TypeVars, operands: &Operands, v: TypeVar) -> bool
     true
 }
 
-/// Whether the root of some variable can have several types.
 fn is_polymorphic(vars: &TypeVars, variables: &[TypeVar]) -> bool
     requires { AreOf vars.now variables.now }
     ensures { MatchBool result (HasSeveralTypes vars.now variables.now) (AllHaveOneType vars.now variables.now) }
@@ -181,7 +174,6 @@ fn is_no_second(vars: &TypeVars, variables: &[TypeVar], s: TypeVar) -> bool
     !is_polymorphic(vars, variables)
 }
 
-/// The candidate, if there is one and it can be the control.
 fn eligible(vars: &TypeVars, operands: &Operands, candidate: Option<TypeVar>) -> Option<TypeVar>
     requires variables { AreOf vars.now operands.now.variables }
     requires of { IfSome candidate (λ v. v < length vars.now) }
@@ -209,7 +201,6 @@ pub enum Controlling {
 }
 
 impl Controlling {
-    /// Whether a control is missing.
     pub(crate) fn is_missing(&self) -> bool
         ensures { IsTrue result ↔ (self.now ≡ Controlling.Missing) }
     {
@@ -219,7 +210,6 @@ impl Controlling {
         }
     }
 
-    /// The variable that controls, if one does.
     fn variable(&self) -> Option<TypeVar>
         ensures { result ≡ control_number self.now }
     {
@@ -270,7 +260,6 @@ fn is_badly_derived(vars: &TypeVars, controls: &Controls, tv: TypeVar) -> bool
     tv.fixed_type(vars).is_none()
 }
 
-/// The place of the first variable that is badly derived.
 fn first_bad(vars: &TypeVars, controls: &Controls, variables: &[TypeVar]) -> Option<usize>
     requires variables { AreOf vars.now variables.now }
     requires controls { AreControlsOf vars.now controls.now }
@@ -376,7 +365,6 @@ impl Operands {
         &self.second
     }
 
-    /// The controls: `control` and the second control of these operands.
     pub(crate) fn controls(&self, control: Option<TypeVar>) -> Controls
         ensures { result ≡ both control self.now.second }
     {
@@ -475,14 +463,12 @@ impl Operands {
         first_bad(vars, &controls, self.variables())
     }
 
-    /// Whether the variable is that of the designated value.
     fn is_designated(&self, tv: TypeVar) -> bool
         ensures { IsTrue result ↔ (designated_number self.now ≡ Some tv) }
     {
         self.designated() == Some(tv)
     }
 
-    /// What is kept of the control that was found for these operands.
     pub(crate) fn polymorphic_info(
         &self,
         vars: &TypeVars,

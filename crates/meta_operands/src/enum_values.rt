@@ -67,7 +67,6 @@ impl EnumValues {
         self.variants.iter()
     }
 
-    /// Makes a copy of the values.
     pub(crate) fn copy(&self, alloc: Global) -> Result<EnumValues, AllocError>
         ensures { IfOk result (λ v. v ≡ self.now) }
     {

@@ -77,7 +77,6 @@ impl FormatFields {
         &self.fields[index]
     }
 
-    /// Adds a field, which holds an operand of this kind.
     pub(crate) fn push(&mut self, kind: &OperandKind) -> Result<(), AllocError>
         ensures added { OnOk result (self.new ≡ self.old ++ field_for kind.now ∷ []) }
         ensures unchanged { OnErr result (self.new ≡ self.old) }
@@ -106,7 +105,6 @@ impl fmt::Display for FormatFields {
     }
 }
 
-/// Writes the fields after the first.
 fn write_more<W: fmt::Write>(f: &mut fmt::Formatter<W>, fields: &[FormatField]) -> fmt::Result
     ensures { DisplaysOnOk W.write_str_gives f.old result (Some (more_fields_text fields.now)) f.new }
 {

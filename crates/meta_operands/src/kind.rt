@@ -33,7 +33,6 @@ impl OperandKindFields {
         }
     }
 
-    /// Makes a copy.
     fn copy(&self, alloc: Global) -> Result<OperandKindFields, AllocError>
         ensures { IfOk result (λ f. f ≡ self.now) }
     {
@@ -49,7 +48,6 @@ impl OperandKindFields {
     }
 }
 
-/// A copy of the documentation, if there is one.
 pub(crate) fn copy_doc(alloc: Global, doc: &Option<Text>) -> Result<Option<Text>, AllocError>
     ensures { IfOk result (λ d. d ≡ doc.now) }
 {
@@ -136,7 +134,6 @@ impl OperandKind {
         self.rust_type.as_str() == "ir::Block"
     }
 
-    /// The documentation, which is empty if the kind has no documentation.
     pub(crate) fn doc(&self) -> &str
         ensures { result.now ≡ unwrap_or (doc_of_kind self.now) [] }
     {

@@ -85,7 +85,6 @@ impl FormatTable {
         &self.formats[id.number as usize]
     }
 
-    /// Adds the format, and answers its number.
     pub(crate) fn push(&mut self, format: InstructionFormat) -> Result<FormatId, AllocError>
         requires { length self.old + 1 < 2 ^ 32 }
         ensures number { IfOk result (λ id. id ≡ length self.old) }

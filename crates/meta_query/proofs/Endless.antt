@@ -16,13 +16,13 @@ use Rattle.meta_types.specs.AllTypes.{all_types}
 use Rattle.meta_types.specs.Function.{LaneOf}
 use Rattle.meta_typevar.specs.declared.masks.Masks.{Masks}
 use Rattle.meta_inst.specs.Which.{First, Second}
-use Rattle.meta_meaning.specs.Tables.{NumberConstraint, ConcreteNumber, FreeOf, SameNumber, ByNumber, at_opcode}
+use Rattle.meta_inst.specs.Tables.{NumberConstraint, ConcreteNumber, FreeOf, SameNumber, ByNumber, at_opcode}
 use Rattle.meta_settings.specs.GroupFaults.{IsPlainByte}
 use Rattle.meta_setting_tables.specs.declared.descriptor.Detail.{Detail}
 use Rattle.meta_setting_tables.specs.declared.descriptor.Detail.TheVariants.{Bool as ABool, Enum as AnEnum, Num as ANum, Preset}
-use Rattle.meta_cursor.specs.Spans.{lacks}
-use Rattle.meta_cursor.proofs.Lacking.{both_lack, lacks_by, any_number_lacks}
-use Rattle.meta_cursor.proofs.Reading.{all_first, all_behind}
+use Rattle.meta_table_reader.specs.Spans.{lacks}
+use Rattle.meta_table_reader.proofs.Lacking.{both_lack, lacks_by, any_number_lacks}
+use Rattle.meta_table_reader.proofs.ItemsRead.{all_first, all_behind}
 use Rattle.meta_table_text.specs.TypeSetText.{parted_behind, powers, held, members, part_of, masks_text, set_or_nothing}
 use Rattle.meta_table_text.specs.ConstraintText.{type_numbered, rust_name_or_nothing, type_text, constraint_text, quoted, quoted_all}
 use Rattle.meta_table_text.specs.OpcodeText.{or_nothing, bool_text, hex_byte}

@@ -1,3 +1,14 @@
+mod Naming
+mod Choosing
+mod Few
+mod Valued
+mod Controlled
+mod Valid
+mod Growing
+mod Counted
+mod Summed
+mod Held
+mod OneSynth
 mod Commands
 mod Marks
 mod Unmarked
@@ -8,4 +19,3 @@ mod TableLines
 mod Told
 mod Runs
 mod OneOutput
-pub mod Listed

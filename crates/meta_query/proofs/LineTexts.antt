@@ -9,9 +9,9 @@ use Rattle.meta_table_text.specs.declared.table_list.TableList.TheVariants.{Form
 use Rattle.meta_table_text.specs.declared.table_list.TableList.TheVariants.{Enumerators, Descriptors, SettingSlots, Presets}
 use Rattle.meta_table_text.specs.Lists.{title_of, head_of, list_head, list_end, list_text}
 use Rattle.meta_table_text.specs.OpcodeText.{each_opcode}
-use Rattle.meta_cursor.specs.Spans.{is_line}
-use Rattle.meta_cursor.proofs.Lacking.{line_behind}
-use Rattle.meta_cursor.proofs.Reading.{all_first, all_behind}
+use Rattle.meta_table_reader.specs.Spans.{is_line}
+use Rattle.meta_table_reader.proofs.Lacking.{line_behind}
+use Rattle.meta_table_reader.proofs.ItemsRead.{all_first, all_behind}
 use Rattle.meta_query.specs.Recheck.{mark}
 use Rattle.meta_query.proofs.Unmarked.{IsUnmarked, unmarked_none, unmarked_both, differs, unmarked_line}
 use Rattle.meta_query.proofs.Endless.{IsEndless, number_endless}

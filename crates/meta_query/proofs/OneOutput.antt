@@ -2,18 +2,18 @@
 use Rattle.std.proofs.Common.{◌≡◌, inl, inr, true, false, ℕ, List, [], ◌∷◌, ◌++◌, sym, ap, ◌∙◌, subst}
 use Rattle.meta_typevar.specs.Registry.{HoldTypeSets}
 use Rattle.meta_inst.specs.InstructionSet.{InstructionSet}
-use Rattle.meta_meaning.specs.Tables.{TableContents}
-use Rattle.meta_declared.specs.AllDeclared.{Declared, AreValid}
-use Rattle.meta_declared.specs.BuiltDeclarations.{BuiltDeclarations, AreBuilt}
+use Rattle.meta_inst.specs.Tables.{TableContents}
+use Rattle.meta_build.specs.AllDeclared.{Declared, AreValid}
+use Rattle.meta_build.specs.BuiltDeclarations.{BuiltDeclarations, AreBuilt}
 use Rattle.meta_gen.specs.WholeTables.{WholeTables, AreWholeTablesOf}
-use Rattle.meta_synth.specs.Synth.{IsSynth}
-use Rattle.meta_synth.specs.Summary.{IsSummaryOf}
+use Rattle.meta_query.specs.Synth.{IsSynth}
+use Rattle.meta_query.specs.Summary.{IsSummaryOf}
 use Rattle.meta_table_reader.specs.Readable.{Reads}
 use Rattle.meta_table_text.specs.TableText.{table_text}
 use Rattle.meta_table_text.specs.declared.version.Version.TheVariants.{Three}
-use Rattle.meta_words.specs.Lines.{lines_of}
-use Rattle.meta_answers.specs.Answer.{IsOutput}
-use Rattle.meta_answers.proofs.TableReplies.{same_answers}
+use Rattle.meta_lines.specs.Lines.{lines_of}
+use Rattle.meta_query_lines.specs.Answer.{IsOutput}
+use Rattle.meta_query_lines.proofs.TableReplies.{same_answers}
 use Rattle.meta_query.specs.declared.command.Command.{Command}
 use Rattle.meta_query.specs.declared.command.Command.TheVariants.{Query, Recheck, Tables, Types, Settings, Instructions, Builder, Synth}
 use Rattle.meta_query.specs.Recheck.{sameness_line, IsTold, IsAnswerBy, IsRecheckOf}

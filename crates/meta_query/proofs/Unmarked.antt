@@ -9,7 +9,7 @@ use Rattle.std.proofs.Math.Seq.{take-append_seam, drop-append_seam}
 use Rattle.std.proofs.lemmas.Bool.{eqb-true, eq-eqb, cases_lt}
 use Rattle.std.proofs.lemmas.List.{drop-drop}
 use Rattle.meta_lists.proofs.Places.{get_left, get_right, get_seam}
-use Rattle.meta_cursor.specs.Spans.{lacks, is_nothing, is_line}
+use Rattle.meta_table_reader.specs.Spans.{lacks, is_nothing, is_line}
 use Rattle.meta_query.specs.Recheck.{mark, BeginsLine, IsMarkAt, IsCut}
 use Rattle.meta_query.proofs.Marks.{mark_within, cut_at}
 

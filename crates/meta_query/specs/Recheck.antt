@@ -6,8 +6,8 @@ use Rattle.std.specs.Prelude.{◌≡◌, ◌≢◌, ℕ, ◌+◌, ◌⊎◌, Boo
 use Rattle.meta_lists.specs.First.{IsFirst}
 use Rattle.meta_gen.specs.WholeTables.{WholeTables}
 use Rattle.meta_table_reader.specs.Readable.{Reads, refused_line}
-use Rattle.meta_words.specs.Lines.{lines_of}
-use Rattle.meta_answers.specs.Answer.{IsTableReply, AreWrittenAnswers}
+use Rattle.meta_lines.specs.Lines.{lines_of}
+use Rattle.meta_query_lines.specs.Answer.{IsTableReply, AreWrittenAnswers}
 
 -- ---- the input is cut
 

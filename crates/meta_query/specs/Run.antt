@@ -1,17 +1,17 @@
 -- What a command answers.
 --     IsOutputOf command d input output      the output of a command over declarations
 use Rattle.std.specs.Prelude.{◌≡◌, ℕ, Bool, true, false, List, [], map}
-use Rattle.meta_declared.specs.AllDeclared.{Declared}
+use Rattle.meta_build.specs.AllDeclared.{Declared}
 use Rattle.meta_gen.specs.WholeTables.{WholeTables, AreWholeTablesOf}
 use Rattle.meta_table_text.specs.TableText.{table_text}
 use Rattle.meta_table_text.specs.declared.version.Version.TheVariants.{Three}
 use Rattle.meta_settings.specs.LaidOut.{built_of}
-use Rattle.meta_declared.specs.BuiltDeclarations.{BuiltDeclarations, AreBuilt}
-use Rattle.meta_settings_text.specs.SettingsText.{settings_text}
-use Rattle.meta_builder_text.specs.BuilderText.{builder_text}
+use Rattle.meta_build.specs.BuiltDeclarations.{BuiltDeclarations, AreBuilt}
+use Rattle.meta_rust_text.specs.SettingsText.{settings_text}
+use Rattle.meta_rust_text.specs.BuilderText.{builder_text}
 use Rattle.meta_rust_text.specs.TypesText.{types_text}
 use Rattle.meta_rust_text.specs.InstructionsText.{instructions_text}
-use Rattle.meta_answers.specs.Answer.{IsOutput}
+use Rattle.meta_query_lines.specs.Answer.{IsOutput}
 use Rattle.meta_run.specs.Run.{Outputs}
 use Rattle.meta_query.specs.declared.command.Command.{Command}
 use Rattle.meta_query.specs.declared.command.Command.TheVariants.{Query, Recheck, Tables, Types, Settings, Instructions, Builder, Synth}

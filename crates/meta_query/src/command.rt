@@ -69,7 +69,6 @@ impl Command {
         None
     }
 
-    /// The command of this name and this number.
     fn numbered(name: &Text, number: &Text) -> Option<Command>
         ensures some { IfSome result (λ c. AreWordsOf c (name.now ∷ number.now ∷ [])) }
         ensures none { IfNone result ((c : Command) → ¬ AreWordsOf c (name.now ∷ number.now ∷ [])) }

@@ -1,6 +1,6 @@
 ghost use Rattle.std.specs.Prelude.{◌≡◌, ◌++◌, ℕ, List, []};
 ghost use Rattle.meta_typevar.specs.Registry.{HoldTypeSets};
-ghost use Rattle.meta_declared.specs.AllDeclared.{Declared, AreValid};
+ghost use Rattle.meta_build.specs.AllDeclared.{Declared, AreValid};
 ghost use Rattle.meta_gen.specs.WholeTables.{WholeTables};
 ghost use Rattle.meta_gen.specs.WellFormed.{IsWellFormed};
 ghost use Rattle.meta_table_text.specs.TableText.{table_text};
@@ -9,11 +9,14 @@ ghost use Rattle.meta_query.specs.Command.{AreWordsOf};
 ghost use Rattle.meta_query.specs.Recheck.{mark, IsCut};
 ghost use Rattle.meta_query.specs.Run.{IsOutputOf};
 ghost use Rattle.meta_query.specs.declared.command.Command.{Command};
+ghost use Rattle.meta_inst.specs.InstructionSet.{InstructionSet};
+ghost use Rattle.meta_inst.specs.Tables.{TableContents};
+ghost use Rattle.meta_query.specs.Synth.{IsSynth};
+ghost use Rattle.meta_query.specs.Summary.{IsSummaryOf};
 
-use meta_answers::one_output;
-use meta_declared::one_built;
+use meta_build::one_built;
 use meta_gen::one_table_of_declarations;
-use meta_synth::{one_summary, one_synth};
+use meta_query_lines::one_output;
 use meta_table_reader::a_text_reads_as_one;
 
 /// Words are those of at most one command.
@@ -47,4 +50,20 @@ pub fn text_of_tables_stays_whole()
     ensures behind { (v : Version) (t : WholeTables) (queries : List ℕ) → IsWellFormed t
         → IsCut (table_text v t ++ (mark ++ queries)) (table_text v t) queries }
     ensures alone { (v : Version) (t : WholeTables) → IsWellFormed t → IsCut (table_text v t) (table_text v t) [] }
+{}
+
+/// The declarations of every number are valid.
+pub fn synth_is_valid()
+    ensures { (n : ℕ) (d : Declared) → IsSynth n d → AreValid d }
+{}
+
+/// A number determines its declarations.
+pub fn one_synth()
+    ensures { (n : ℕ) (d e : Declared) → IsSynth n d → IsSynth n e → d ≡ e }
+{}
+
+/// A number determines the line on the tables of its declarations.
+pub fn one_summary()
+    ensures { (n : ℕ) (d : InstructionSet) (t : TableContents) (line other : List ℕ) → IsSummaryOf n d t line
+        → IsSummaryOf n d t other → line ≡ other }
 {}

@@ -1,19 +1,18 @@
 ghost use Rattle.std.specs.Prelude.{◌≡◌, false, [], IfOk, string_bytes};
-ghost use Rattle.meta_answers.specs.Answer.{IsOutput};
+ghost use Rattle.meta_query_lines.specs.Answer.{IsOutput};
 ghost use Rattle.meta_run.specs.Run.{never_rejecting};
 ghost use Rattle.meta_query.specs.Run.{has_input, IsOutputOf};
 
 use super::command::Command;
 use super::recheck::recheck;
 use super::synthesis::synth_line;
-use meta_answers::{answers_mean, push_answers};
 use meta_gen::{Built, tables_of};
+use meta_query_lines::{answers_mean, push_answers};
 use meta_run::{Answer, Answerer};
 use meta_rust_text::{builder_text, instructions_text, settings_text, types_text};
 use meta_table_text::{Version, table_text};
 use std::alloc::{AllocError, Global};
 
-/// The answers of the tables of what was built to an input.
 fn answers(alloc: Global, built: &Built<'_>, input: &[u8]) -> Result<String, AllocError>
     ensures { IfOk result (λ output. IsOutput built.now.declared input.now (string_bytes output)) }
 {
@@ -24,7 +23,6 @@ fn answers(alloc: Global, built: &Built<'_>, input: &[u8]) -> Result<String, All
     Ok(output)
 }
 
-/// The output of a command over what was built of declarations, for this input.
 fn output_of(
     alloc: Global,
     command: Command,
@@ -65,7 +63,6 @@ impl Answerer for Command {
         }
     }
 
-    /// The output of the command.
     fn answer(&self, alloc: Global, built: &Built<'_>, input: &[u8]) -> Result<Answer, AllocError> {
         Ok(Answer {
             text: output_of(alloc, *self, built, input)?,

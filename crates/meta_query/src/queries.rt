@@ -5,7 +5,6 @@ ghost use Rattle.meta_query.specs.Recheck.{BeginsLine, IsMarkAt, IsCut};
 /// The line before the queries.
 const MARK: &[u8] = b"// Queries.\n";
 
-/// Whether a line begins at the place.
 fn begins_line(input: &[u8], at: usize) -> bool
     requires { at < length input.now }
     ensures { IsTrue result ↔ BeginsLine input.now at }
@@ -16,7 +15,6 @@ fn begins_line(input: &[u8], at: usize) -> bool
     input[at - 1] == b'\n'
 }
 
-/// Whether the line before the queries stands at the place.
 fn is_mark_at(input: &[u8], at: usize) -> bool
     requires { at < length input.now }
     ensures { IsTrue result ↔ IsMarkAt input.now at }

@@ -2,12 +2,11 @@ ghost use Rattle.std.specs.Prelude.{◌≡◌, ◌↔◌, IfOk, IsTrue, string_b
 ghost use Rattle.meta_query.specs.Recheck.{sameness_line, IsTold, IsRecheckOf};
 
 use super::queries::cut_queries;
-use meta_answers::push_answers;
 use meta_gen::Tables;
+use meta_query_lines::push_answers;
 use meta_table_reader::{TextError, read_tables, refused};
 use std::alloc::{AllocError, Global};
 
-/// Whether the tables that were read are equal to these.
 fn is_same(read: &Tables, tables: &Tables) -> bool
     ensures same { IsTrue result ↔ (read.now ≡ tables.now) }
 {

@@ -1,12 +1,13 @@
 ghost use Rattle.std.specs.Prelude.{◌≡◌, ◌≢◌, ◌<◌, ◌^◌, ℕ, IfOk, IfSome, IfNone, string_bytes};
 ghost use Rattle.std.specs.Fmt.{decimal};
-ghost use Rattle.meta_synth.specs.Synth.{IsSynth};
+ghost use Rattle.meta_query.specs.Synth.{IsSynth};
 ghost use Rattle.meta_query.specs.Synthesis.{IsSynthOutput};
 
+use super::generator::synth;
+use super::report::summary;
 use meta_gen::{Declarations, generate};
-use meta_synth::{summary, synth};
+use meta_lines::number_u32;
 use meta_types::Text;
-use meta_words::number_u32;
 use std::alloc::{AllocError, Global};
 
 /// The number that a word writes: decimal, with no zero before it, at most 4,294,967,295. `None` if it writes no such number.

@@ -3,7 +3,7 @@ use Rattle.std.proofs.Common.{◌≡◌, ◌≢◌, ◌≤◌, inl, inr, ℕ, Bo
 use Rattle.std.specs.Prelude.{⊤}
 use Rattle.meta_types.specs.declared.fault.DefinitionError.{DefinitionError}
 use Rattle.meta_text.specs.Outside.{Rose, longest_input, GaveMore, GaveAtMost}
-use Rattle.meta_declared.specs.AllDeclared.{Declared, ShowsFirst, AreValid}
+use Rattle.meta_build.specs.AllDeclared.{Declared, ShowsFirst, AreValid}
 use Rattle.meta_run.specs.Ending.{WritesNothing, written_as}
 use Rattle.meta_run.specs.declared.ending.Ending.{Ending}
 use Rattle.meta_run.specs.declared.ending.Ending.TheVariants.{Done, Refused, Usage, ReadFault, WriteFault, OutOfMemory, TooLong, Rejected}

@@ -9,7 +9,7 @@ use Rattle.meta_types.specs.Fault.{line_of}
 use Rattle.meta_types.specs.declared.fault.DefinitionError.{DefinitionError}
 use Rattle.meta_types.specs.declared.fault.DefinitionError.TheVariants as fault_of
 use Rattle.meta_text.specs.Outside.{Rose, with_front, with_more, NothingLeft, longest_input, GaveMore, GaveAtMost, TookPart}
-use Rattle.meta_declared.specs.AllDeclared.{Declared, ShowsFirst, AreValid}
+use Rattle.meta_build.specs.AllDeclared.{Declared, ShowsFirst, AreValid}
 use Rattle.meta_run.specs.declared.ending.Ending.{Ending}
 use Rattle.meta_run.specs.declared.ending.Ending.TheVariants.{Done, Refused, Usage, ReadFault, WriteFault, OutOfMemory, TooLong, Rejected}
 use Rattle.meta_run.specs.Ending.{WritesNothing, written_as}

@@ -1,8 +1,8 @@
 ghost use Rattle.std.specs.Prelude.{◌≡◌, ◌≤◌, Bool, false, List, [], ℕ, length, IfOk, string_bytes};
 ghost use Rattle.meta_text.specs.Outside.{longest_input};
-ghost use Rattle.meta_declared.specs.AllDeclared.{Declared};
+ghost use Rattle.meta_build.specs.AllDeclared.{Declared};
 
-use meta_declared::Built;
+use meta_build::Built;
 use std::alloc::{AllocError, Global};
 
 /// A text that answers an input.

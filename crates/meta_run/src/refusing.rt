@@ -7,7 +7,6 @@ use meta_text::{Sink, write_whole};
 use meta_types::DefinitionError;
 use std::alloc::{AllocError, Global};
 
-/// The line that refuses declarations.
 fn refusal(alloc: Global, fault: &DefinitionError) -> Result<Vec<u8>, AllocError>
     ensures { IfOk result (λ v. v.items ≡ refusal fault.now) }
 {
@@ -19,7 +18,6 @@ fn refusal(alloc: Global, fault: &DefinitionError) -> Result<Vec<u8>, AllocError
     Ok(out)
 }
 
-/// Whether the fault says that memory ran out, and is no fault of the declarations.
 fn is_out_of_memory(fault: &DefinitionError) -> bool
     ensures { IsTrue result ↔ (fault.now ≡ DefinitionError.OutOfMemory) }
 {

@@ -5,7 +5,7 @@ ghost use Rattle.meta_run.specs.Run.{IsInput, IsAnsweredWhole, Ran, AnswersInput
 use super::answerer::Answerer;
 use super::ending::Ending;
 use super::refusing::refuse;
-use meta_declared::{Built, Declarations, build_all, one_first_fault};
+use meta_build::{Built, Declarations, build_all, one_first_fault};
 use meta_text::{ReadError, Sink, Source, read_whole, write_whole};
 use std::alloc::Global;
 

@@ -4,7 +4,7 @@ use Rattle.std.proofs.Common.{sym, ap, ◌∙◌, append_assoc, append-nil}
 use Rattle.std.specs.List.{list_any, flat_map}
 use Rattle.std.proofs.lemmas.List.{take_more, take_all}
 use Rattle.std.proofs.lemmas.List.Folds.{list_any-append}
-use Rattle.meta_rust_words.proofs.Truths.{or_comm, or_false}
+use Rattle.meta_rust_names.proofs.Truths.{or_comm, or_false}
 
 -- what is made of a list and one element more
 mapped_more : {A X : Type 0} (f : A → List X) (front : List A) (a : A) → flat_map f (front ++ a ∷ []) ≡ flat_map f front ++ f a

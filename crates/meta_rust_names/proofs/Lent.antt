@@ -5,7 +5,7 @@ use Rattle.std.specs.List.{flat_map, enumerate_from}
 use Rattle.meta_typevar.specs.declared.content.TypeVarContent.{TypeVarContent}
 use Rattle.meta_operands.specs.declared.format.InstructionFormat.{InstructionFormat}
 use Rattle.meta_inst.specs.Built.{BuiltInstruction}
-use Rattle.meta_declared.specs.BuiltDeclarations.{BuiltDeclarations}
+use Rattle.meta_build.specs.BuiltDeclarations.{BuiltDeclarations}
 use Rattle.meta_rust_names.specs.Methods.{is_among, format_names, instruction_methods, imm_methods}
 use Rattle.meta_rust_names.specs.Instructions.{instruction_refused, instructions_refused}
 use Rattle.meta_rust_names.specs.Formats.{format_refused, formats_refused}

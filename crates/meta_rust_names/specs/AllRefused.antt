@@ -1,8 +1,8 @@
 -- All names of declarations with which the texts of Rust aren't compiled.
 --     refused_names b      these, in order, each with its first reason
 use Rattle.std.specs.Prelude.{List, ◌++◌}
-use Rattle.meta_declared.specs.BuiltDeclarations.{BuiltDeclarations}
-use Rattle.meta_rust_words.specs.declared.refused.RefusedName.{RefusedName}
+use Rattle.meta_build.specs.BuiltDeclarations.{BuiltDeclarations}
+use Rattle.meta_rust_names.specs.declared.refused.RefusedName.{RefusedName}
 use Rattle.meta_rust_names.specs.Instructions.{instructions_refused}
 use Rattle.meta_rust_names.specs.Formats.{formats_refused}
 use Rattle.meta_rust_names.specs.Groups.{groups_refused}

@@ -7,16 +7,16 @@ use Rattle.std.specs.List.{flat_map, enumerate_from, list_any}
 use Rattle.meta_types.specs.declared.fault.Place.{Place}
 use Rattle.meta_operands.specs.declared.field.FormatField.{FormatField}
 use Rattle.meta_operands.specs.declared.format.InstructionFormat.{InstructionFormat}
-use Rattle.meta_instructions_methods_text.specs.Held.{values_of, blocks_of, has_raw_block, values_member, blocks_member, raw_block_member}
-use Rattle.meta_instructions_methods_text.specs.MapMethod.{mapper_method}
-use Rattle.meta_rust_words.specs.declared.refused.Why.{Why}
-use Rattle.meta_rust_words.specs.declared.refused.Why.TheVariants.{InScope, OfFormat, EarlierField}
-use Rattle.meta_rust_words.specs.declared.refused.Part.TheVariants.{Field, FieldType}
-use Rattle.meta_rust_words.specs.declared.refused.RefusedName.{RefusedName}
-use Rattle.meta_rust_words.specs.Refused.{or_why, refused}
-use Rattle.meta_rust_words.specs.Words.{word_why}
-use Rattle.meta_rust_words.specs.Comments.{comment_why, type_why}
-use Rattle.meta_rust_words.specs.Forms.{is_named, is_numbered, meets}
+use Rattle.meta_rust_insts.specs.Held.{values_of, blocks_of, has_raw_block, values_member, blocks_member, raw_block_member}
+use Rattle.meta_rust_insts.specs.MapMethod.{mapper_method}
+use Rattle.meta_rust_names.specs.declared.refused.Why.{Why}
+use Rattle.meta_rust_names.specs.declared.refused.Why.TheVariants.{InScope, OfFormat, EarlierField}
+use Rattle.meta_rust_names.specs.declared.refused.Part.TheVariants.{Field, FieldType}
+use Rattle.meta_rust_names.specs.declared.refused.RefusedName.{RefusedName}
+use Rattle.meta_rust_names.specs.Refused.{or_why, refused}
+use Rattle.meta_rust_names.specs.Words.{word_why}
+use Rattle.meta_rust_names.specs.Comments.{comment_why, type_why}
+use Rattle.meta_rust_names.specs.Forms.{is_named, is_numbered, meets}
 use Rattle.meta_rust_names.specs.Methods.{is_form}
 use Rattle.meta_rust_names.specs.Variants.{variant_why}
 

@@ -6,13 +6,13 @@ use Rattle.meta_types.specs.declared.fault.Place.{Place}
 use Rattle.meta_types.specs.declared.fault.Place.TheVariants.{Format}
 use Rattle.meta_operands.specs.Texts.{same_text}
 use Rattle.meta_operands.specs.declared.format.InstructionFormat.{InstructionFormat}
-use Rattle.meta_declared.specs.BuiltDeclarations.{BuiltDeclarations}
-use Rattle.meta_rust_words.specs.declared.refused.Why.{Why}
-use Rattle.meta_rust_words.specs.declared.refused.Why.TheVariants.{Keyword, FixedMethod, InstructionMethod, ImmMethod}
-use Rattle.meta_rust_words.specs.declared.refused.Part.TheVariants.{Name}
-use Rattle.meta_rust_words.specs.declared.refused.RefusedName.{RefusedName}
-use Rattle.meta_rust_words.specs.Refused.{refused}
-use Rattle.meta_rust_words.specs.Words.{is_keyword}
+use Rattle.meta_build.specs.BuiltDeclarations.{BuiltDeclarations}
+use Rattle.meta_rust_names.specs.declared.refused.Why.{Why}
+use Rattle.meta_rust_names.specs.declared.refused.Why.TheVariants.{Keyword, FixedMethod, InstructionMethod, ImmMethod}
+use Rattle.meta_rust_names.specs.declared.refused.Part.TheVariants.{Name}
+use Rattle.meta_rust_names.specs.declared.refused.RefusedName.{RefusedName}
+use Rattle.meta_rust_names.specs.Refused.{refused}
+use Rattle.meta_rust_names.specs.Words.{is_keyword}
 use Rattle.meta_rust_names.specs.Methods.{is_among, is_base_method, instruction_methods, imm_methods}
 use Rattle.meta_rust_names.specs.Fields.{fields_refused}
 

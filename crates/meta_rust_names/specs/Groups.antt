@@ -9,12 +9,12 @@ use Rattle.meta_operands.specs.Texts.{same_text}
 use Rattle.meta_settings.specs.Layout.{PlacedSetting, Layout}
 use Rattle.meta_settings.specs.declared.setting.SpecificSetting.{SpecificSetting}
 use Rattle.meta_settings.specs.declared.setting.SpecificSetting.TheVariants.{Bool as ABool, Enum, Num}
-use Rattle.meta_rust_words.specs.declared.refused.Why.{Why}
-use Rattle.meta_rust_words.specs.declared.refused.Why.TheVariants.{Keyword, InScope, SelfType, ErrType, TypeBeside, FixedMethod, FixedLocal}
-use Rattle.meta_rust_words.specs.declared.refused.Part.TheVariants.{Name, Setting, SettingType, Value}
-use Rattle.meta_rust_words.specs.declared.refused.RefusedName.{RefusedName}
-use Rattle.meta_rust_words.specs.Refused.{refused}
-use Rattle.meta_rust_words.specs.Words.{is_keyword, is_prelude_variant}
+use Rattle.meta_rust_names.specs.declared.refused.Why.{Why}
+use Rattle.meta_rust_names.specs.declared.refused.Why.TheVariants.{Keyword, InScope, SelfType, ErrType, TypeBeside, FixedMethod, FixedLocal}
+use Rattle.meta_rust_names.specs.declared.refused.Part.TheVariants.{Name, Setting, SettingType, Value}
+use Rattle.meta_rust_names.specs.declared.refused.RefusedName.{RefusedName}
+use Rattle.meta_rust_names.specs.Refused.{refused}
+use Rattle.meta_rust_names.specs.Words.{is_keyword, is_prelude_variant}
 
 -- ---- the group's own name, that of a variable
 

@@ -11,14 +11,14 @@ use Rattle.meta_operands.specs.declared.format.InstructionFormat.{InstructionFor
 use Rattle.meta_inst.specs.Built.{BuiltInstruction}
 use Rattle.meta_inst.specs.FormatMatch.{is_value_operand, is_block_operand, is_raw_block_operand}
 use Rattle.meta_inst.specs.declared.polymorphic.PolymorphicInfo.{PolymorphicInfo}
-use Rattle.meta_rust_words.specs.declared.refused.Why.{Why}
-use Rattle.meta_rust_words.specs.declared.refused.Why.TheVariants.{NotBlock, ImmBlock, ControlLocal, ListLocal, ImmLocal, EarlierInput}
-use Rattle.meta_rust_words.specs.declared.refused.Part.TheVariants.{Input, InputType, InputDoc}
-use Rattle.meta_rust_words.specs.declared.refused.RefusedName.{RefusedName}
-use Rattle.meta_rust_words.specs.Refused.{or_why, refused}
-use Rattle.meta_rust_words.specs.Words.{word_why}
-use Rattle.meta_rust_words.specs.Comments.{doc_why, type_why}
-use Rattle.meta_rust_words.specs.Forms.{is_named}
+use Rattle.meta_rust_names.specs.declared.refused.Why.{Why}
+use Rattle.meta_rust_names.specs.declared.refused.Why.TheVariants.{NotBlock, ImmBlock, ControlLocal, ListLocal, ImmLocal, EarlierInput}
+use Rattle.meta_rust_names.specs.declared.refused.Part.TheVariants.{Input, InputType, InputDoc}
+use Rattle.meta_rust_names.specs.declared.refused.RefusedName.{RefusedName}
+use Rattle.meta_rust_names.specs.Refused.{or_why, refused}
+use Rattle.meta_rust_names.specs.Words.{word_why}
+use Rattle.meta_rust_names.specs.Comments.{doc_why, type_why}
+use Rattle.meta_rust_names.specs.Forms.{is_named}
 use Rattle.meta_rust_names.specs.Methods.{is_form, meets_some}
 use Rattle.meta_rust_names.specs.Variants.{variant_why}
 

@@ -11,18 +11,18 @@ use Rattle.meta_operands.specs.Operand.{doc_at, doc_of}
 use Rattle.meta_operands.specs.declared.operand.Operand.{Operand}
 use Rattle.meta_operands.specs.declared.format.InstructionFormat.{InstructionFormat}
 use Rattle.meta_inst.specs.Built.{BuiltInstruction}
-use Rattle.meta_declared.specs.BuiltDeclarations.{BuiltDeclarations}
-use Rattle.meta_builder_text.specs.Operands.{variable_name}
-use Rattle.meta_builder_text.specs.Arguments.{asked_control}
-use Rattle.meta_rust_words.specs.declared.refused.Why.{Why}
-use Rattle.meta_rust_words.specs.declared.refused.Why.TheVariants.{Keyword, SelfType, FixedMethod, FormatName, ImmMethod}
-use Rattle.meta_rust_words.specs.declared.refused.Why.TheVariants.{ImmControl, ListLocal, OfInput}
-use Rattle.meta_rust_words.specs.declared.refused.Part.TheVariants.{Name, Output, OutputDoc, Doc, Control, ControlDoc}
-use Rattle.meta_rust_words.specs.declared.refused.RefusedName.{RefusedName}
-use Rattle.meta_rust_words.specs.Refused.{or_why, refused}
-use Rattle.meta_rust_words.specs.Words.{is_keyword, word_why}
-use Rattle.meta_rust_words.specs.Comments.{comment_why, doc_why}
-use Rattle.meta_rust_words.specs.Forms.{is_named, meets}
+use Rattle.meta_build.specs.BuiltDeclarations.{BuiltDeclarations}
+use Rattle.meta_rust_text.specs.Operands.{variable_name}
+use Rattle.meta_rust_text.specs.MethodArguments.{asked_control}
+use Rattle.meta_rust_names.specs.declared.refused.Why.{Why}
+use Rattle.meta_rust_names.specs.declared.refused.Why.TheVariants.{Keyword, SelfType, FixedMethod, FormatName, ImmMethod}
+use Rattle.meta_rust_names.specs.declared.refused.Why.TheVariants.{ImmControl, ListLocal, OfInput}
+use Rattle.meta_rust_names.specs.declared.refused.Part.TheVariants.{Name, Output, OutputDoc, Doc, Control, ControlDoc}
+use Rattle.meta_rust_names.specs.declared.refused.RefusedName.{RefusedName}
+use Rattle.meta_rust_names.specs.Refused.{or_why, refused}
+use Rattle.meta_rust_names.specs.Words.{is_keyword, word_why}
+use Rattle.meta_rust_names.specs.Comments.{comment_why, doc_why}
+use Rattle.meta_rust_names.specs.Forms.{is_named, meets}
 use Rattle.meta_rust_names.specs.Methods.{is_among, is_form, is_base_method, format_names, imm_methods, method_name}
 use Rattle.meta_rust_names.specs.Inputs.{inputs_refused, names_of_input}
 

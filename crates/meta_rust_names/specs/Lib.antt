@@ -1,3 +1,9 @@
+pub mod Words
+pub mod Comments
+pub mod Refused
+pub mod Forms
+pub mod Known
+pub mod Texts
 pub mod Methods
 pub mod Variants
 pub mod Inputs

@@ -5,9 +5,9 @@ use Rattle.std.specs.List.{list_any}
 use Rattle.meta_operands.specs.EnumEntries.{EnumEntries}
 use Rattle.meta_operands.specs.Kind.{enum_values_in}
 use Rattle.meta_operands.specs.declared.kind.OperandKind.{OperandKind}
-use Rattle.meta_rust_words.specs.declared.refused.Why.{Why}
-use Rattle.meta_rust_words.specs.declared.refused.Why.TheVariants.{OwnVariant}
-use Rattle.meta_rust_words.specs.Forms.{is_named}
+use Rattle.meta_rust_names.specs.declared.refused.Why.{Why}
+use Rattle.meta_rust_names.specs.declared.refused.Why.TheVariants.{OwnVariant}
+use Rattle.meta_rust_names.specs.Forms.{is_named}
 
 -- whether two names are one identifier, raw or not
 abbrev pub is_same_identifier : List ℕ → List ℕ → Bool

@@ -1,6 +1,5 @@
 ghost use Rattle.std.specs.Prelude.{◌≡◌, ◌++◌, ℕ, List, IfOk, OnOk};
-ghost use Rattle.meta_inst.specs.InstructionSet.{AreOfRegistries};
-ghost use Rattle.meta_rust_words.specs.Known.{known};
+ghost use Rattle.meta_rust_names.specs.Known.{known};
 ghost use Rattle.meta_rust_names.specs.Methods.{is_among, format_names, imm_methods};
 ghost use Rattle.meta_rust_names.specs.Instructions.{instructions_refused};
 ghost use Rattle.meta_rust_names.specs.Formats.{formats_refused};
@@ -10,20 +9,11 @@ use super::formats::push_formats;
 use super::groups::push_groups;
 use super::instructions::{Others, push_instructions};
 use super::methods::{format_names, imm_methods, instruction_methods};
-use meta_declared::{Built, Declarations};
-use meta_rust_words::{Names, RefusedName};
-use meta_typevar::TypeVars;
+use super::names::Names;
+use super::refused::RefusedName;
+use meta_build::Built;
+use meta_rust_text::variables;
 use std::alloc::{AllocError, Global};
-
-/// The type variables, which are those of the instructions.
-fn variables(declarations: &Declarations) -> &TypeVars
-    ensures vars { result.now ≡ declarations.now.set.vars }
-    ensures fits { AreOfRegistries declarations.now.set.vars declarations.now.set.formats declarations.now.set.instructions }
-{
-    // the instructions say whose variables they have
-    let _instructions = declarations.instructions();
-    declarations.vars()
-}
 
 /// The names that instructions can't have, since other methods have them.
 fn others(alloc: Global, built: &Built<'_>) -> Result<Others, AllocError>
@@ -38,7 +28,6 @@ fn others(alloc: Global, built: &Built<'_>) -> Result<Others, AllocError>
     })
 }
 
-/// Adds what is refused of the instructions.
 #[tactic(auto, unfolding(crate::specs::Instructions::instructions_refused))]
 fn push_all_instructions(
     alloc: Global,
@@ -56,7 +45,6 @@ fn push_all_instructions(
     push_instructions(alloc, out, others, vars, formats, built.instructions())
 }
 
-/// Adds what is refused of the formats in use.
 #[tactic(auto, unfolding(crate::specs::Formats::formats_refused))]
 fn push_all_formats(
     alloc: Global,

@@ -1,23 +1,22 @@
 ghost use Rattle.std.specs.Prelude.{◌≡◌, ◌++◌, OnOk, IfOk};
-ghost use Rattle.meta_instructions_methods_text.specs.Held.{values_of, blocks_of, has_raw_block, values_member, blocks_member};
-ghost use Rattle.meta_instructions_methods_text.specs.Held.{raw_block_member};
+ghost use Rattle.meta_rust_insts.specs.Held.{values_of, blocks_of, has_raw_block, values_member, blocks_member};
+ghost use Rattle.meta_rust_insts.specs.Held.{raw_block_member};
 ghost use Rattle.std.specs.List.{list_any};
-ghost use Rattle.meta_rust_words.specs.Known.{known};
-ghost use Rattle.meta_rust_words.specs.Forms.{is_named, is_numbered};
+ghost use Rattle.meta_rust_names.specs.Known.{known};
+ghost use Rattle.meta_rust_names.specs.Forms.{is_named, is_numbered};
 ghost use Rattle.meta_rust_names.specs.Fields.{is_table_constant, is_always_taken, asks_pool, is_mapped_field, holds_operands};
 ghost use Rattle.meta_rust_names.specs.Fields.{asks_mapper, is_method_variable, is_member, is_member_of, is_parameter_of};
 ghost use Rattle.meta_rust_names.specs.Fields.{is_of_format, taken_why, field_name_why, field_type_why, field_refused, fields_refused};
 
+use super::comments::{comment_why, type_why};
+use super::names::{Names, is_named, is_numbered};
+use super::refused::{Part, RefusedName, Why, or_why, push_refused};
 use super::variants::variant_why;
+use super::words::word_why;
 use meta_operands::{FormatField, InstructionFormat, OperandKindFields};
-use meta_rust_words::{
-    Names, Part, RefusedName, Why, comment_why, is_named, is_numbered, or_why, push_refused,
-    type_why, word_why,
-};
 use meta_types::Place;
 use std::alloc::{AllocError, Global};
 
-/// Whether the name is that of a constant of the tables.
 #[tactic(auto, unfolding(crate::specs::Fields::is_table_constant))]
 fn is_table_constant(name: &[u8]) -> bool
     ensures { result ≡ is_table_constant name.now }
@@ -57,19 +56,12 @@ fn is_mapped_field(field: &FormatField) -> bool
     }
 }
 
-/// Whether the method that maps asks the mapper of one of the fields.
 fn has_mapped_field(fields: &[FormatField]) -> bool
     ensures { result ≡ list_any is_mapped_field fields.now }
 {
-    for field in fields {
-        if is_mapped_field(field) {
-            return true;
-        }
-    }
-    false
+    fields.iter().any(|f| is_mapped_field(f))
 }
 
-/// Whether the format holds values or blocks.
 fn holds_operands(format: &InstructionFormat) -> bool
     ensures { result ≡ holds_operands format.now }
 {
@@ -86,7 +78,6 @@ fn asks_mapper(format: &InstructionFormat) -> bool
     holds_operands(format) || has_mapped_field(format.imm_fields.as_slice())
 }
 
-/// Whether the name is that of a variable of these methods.
 #[tactic(auto, unfolding(crate::specs::Fields::is_method_variable))]
 fn is_method_variable(format: &InstructionFormat, name: &[u8]) -> bool
     ensures { result ≡ is_method_variable format.now name.now }
@@ -95,7 +86,6 @@ fn is_method_variable(format: &InstructionFormat, name: &[u8]) -> bool
         || (asks_mapper(format) && is_named(b"mapper", name))
 }
 
-/// Whether the name is that of a member which holds values or blocks.
 #[tactic(auto, unfolding(crate::specs::Fields::is_member_of))]
 fn is_member_of(format: &InstructionFormat, name: &[u8]) -> bool
     ensures { result ≡ is_member_of format.now name.now }
@@ -105,7 +95,6 @@ fn is_member_of(format: &InstructionFormat, name: &[u8]) -> bool
         || is_raw_block_member(format, name)
 }
 
-/// Whether the name is that of the member which holds the values.
 fn is_values_member(format: &InstructionFormat, name: &[u8]) -> bool
     ensures { result ≡ is_member (values_member (values_of format.now)) name.now }
 {
@@ -121,7 +110,6 @@ fn is_values_member(format: &InstructionFormat, name: &[u8]) -> bool
     is_named(b"args", name)
 }
 
-/// Whether the name is that of the member which holds the blocks.
 fn is_blocks_member(format: &InstructionFormat, name: &[u8]) -> bool
     ensures { result ≡ is_member (blocks_member (blocks_of format.now)) name.now }
 {
@@ -134,7 +122,6 @@ fn is_blocks_member(format: &InstructionFormat, name: &[u8]) -> bool
     is_named(b"blocks", name)
 }
 
-/// Whether the name is that of the member which holds the block without arguments.
 fn is_raw_block_member(format: &InstructionFormat, name: &[u8]) -> bool
     ensures { result ≡ is_member (raw_block_member (has_raw_block format.now)) name.now }
 {
@@ -162,7 +149,6 @@ fn is_parameter_of(
     is_numbered(alloc, "block", format.num_raw_block_operands, name)
 }
 
-/// Whether the format has the name itself.
 #[tactic(auto, unfolding(crate::specs::Fields::is_of_format))]
 fn is_of_format(alloc: Global, format: &InstructionFormat, name: &str) -> Result<bool, AllocError>
     ensures { IfOk result (λ is. is ≡ is_of_format format.now name.now) }
@@ -218,7 +204,6 @@ fn field_name_why(
     Ok(or_why(word_why(name.as_bytes()), variant))
 }
 
-/// Why a field's type isn't one.
 #[tactic(auto, unfolding(crate::specs::Fields::field_type_why))]
 fn field_type_why(rust_type: &str) -> Option<Why>
     ensures { result ≡ field_type_why rust_type.now }
@@ -226,7 +211,6 @@ fn field_type_why(rust_type: &str) -> Option<Why>
     or_why(type_why(rust_type), comment_why(rust_type))
 }
 
-/// Adds what is refused of the field at this place among the fields.
 #[tactic(auto, unfolding(crate::specs::Fields::field_refused))]
 fn push_field(
     alloc: Global,
@@ -250,7 +234,6 @@ fn push_field(
     )
 }
 
-/// Adds what is refused of the fields.
 pub(crate) fn push_fields(
     alloc: Global,
     out: &mut Vec<RefusedName>,

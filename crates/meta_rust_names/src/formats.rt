@@ -1,12 +1,14 @@
 ghost use Rattle.std.specs.Prelude.{◌≡◌, ◌++◌, OnOk, slice_get};
 ghost use Rattle.std.specs.List.{flat_map};
-ghost use Rattle.meta_rust_words.specs.Known.{known};
+ghost use Rattle.meta_rust_names.specs.Known.{known};
 ghost use Rattle.meta_rust_names.specs.Formats.{format_name_why, of_format, format_refused};
 
 use super::fields::push_fields;
 use super::methods::is_base_method;
+use super::names::Names;
+use super::refused::{Part, RefusedName, Why, push_refused};
+use super::words::is_keyword;
 use meta_operands::{FormatId, FormatTable, InstructionFormat};
-use meta_rust_words::{Names, Part, RefusedName, Why, is_keyword, push_refused};
 use meta_types::Place;
 use std::alloc::{AllocError, Global};
 
@@ -33,7 +35,6 @@ fn format_name_why(methods: &Names, imm_methods: &Names, name: &str) -> Option<W
     None
 }
 
-/// Adds what is refused of the format.
 #[tactic(auto, unfolding(crate::specs::Formats::of_format))]
 fn push_format(
     alloc: Global,
@@ -50,7 +51,6 @@ fn push_format(
     push_fields(alloc, out, format, format.imm_fields.as_slice(), place)
 }
 
-/// Adds what is refused of the format with this number.
 #[tactic(auto, unfolding(crate::specs::Formats::format_refused))]
 fn push_format_at(
     alloc: Global,
@@ -69,7 +69,6 @@ fn push_format_at(
     push_format(alloc, out, methods, imm_methods, formats.get(id), place)
 }
 
-/// Adds what is refused of the formats with these numbers.
 pub(crate) fn push_formats(
     alloc: Global,
     out: &mut Vec<RefusedName>,

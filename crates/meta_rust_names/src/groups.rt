@@ -1,14 +1,14 @@
 ghost use Rattle.std.specs.Prelude.{◌≡◌, ◌++◌, OnOk};
 ghost use Rattle.meta_rust_names.specs.Groups.{is_table_static, group_name_why, is_flags_method, setting_name_why, is_type_beside};
-ghost use Rattle.meta_rust_names.specs.Groups.{enum_name_why, value_why, value_refused, values_refused, enum_refused};
+ghost use Rattle.meta_rust_names.specs.Groups.{enum_name_why, value_why, value_refused, values_refused};
 ghost use Rattle.meta_rust_names.specs.Groups.{specific_refused, setting_refused, settings_refused, group_refused, groups_refused};
 
-use meta_rust_words::{Part, RefusedName, Why, is_keyword, is_prelude_variant, push_refused};
-use meta_settings::{Setting, SettingGroup, SpecificSetting, ValueNames};
+use super::refused::{Part, RefusedName, Why, push_refused};
+use super::words::{is_keyword, is_prelude_variant};
+use meta_settings::{Setting, SettingGroup, SpecificSetting};
 use meta_types::{Place, Text, camel_case};
 use std::alloc::{AllocError, Global};
 
-/// Whether the name is that of a static of the group's tables.
 #[tactic(auto, unfolding(crate::specs::Groups::is_table_static))]
 fn is_table_static(name: &[u8]) -> bool
     ensures { result ≡ is_table_static name.now }
@@ -20,7 +20,6 @@ fn is_table_static(name: &[u8]) -> bool
         || name == b"TEMPLATE".as_slice()
 }
 
-/// Why a group can't have the name.
 #[tactic(auto, unfolding(crate::specs::Groups::group_name_why))]
 fn group_name_why(name: &[u8]) -> Option<Why>
     ensures { result ≡ group_name_why name.now }
@@ -40,7 +39,6 @@ fn group_name_why(name: &[u8]) -> Option<Why>
     None
 }
 
-/// Whether the name is that of a method that `Flags` always has.
 #[tactic(auto, unfolding(crate::specs::Groups::is_flags_method))]
 fn is_flags_method(name: &[u8]) -> bool
     ensures { result ≡ is_flags_method name.now }
@@ -51,7 +49,6 @@ fn is_flags_method(name: &[u8]) -> bool
         || name == b"numbered_predicate".as_slice()
 }
 
-/// Why a setting can't have the name.
 #[tactic(auto, unfolding(crate::specs::Groups::setting_name_why))]
 fn setting_name_why(name: &[u8]) -> Option<Why>
     ensures { result ≡ setting_name_why name.now }
@@ -77,7 +74,6 @@ fn is_type_beside(camel: &[u8]) -> bool
         || camel == b"Iterator".as_slice()
 }
 
-/// Why an enum can't have the name in camel case.
 #[tactic(auto, unfolding(crate::specs::Groups::enum_name_why))]
 fn enum_name_why(camel: &[u8]) -> Option<Why>
     ensures { result ≡ enum_name_why camel.now }
@@ -91,7 +87,6 @@ fn enum_name_why(camel: &[u8]) -> Option<Why>
     None
 }
 
-/// Why a value can't have the name in camel case.
 #[tactic(auto, unfolding(crate::specs::Groups::value_why))]
 fn value_why(camel: &[u8]) -> Option<Why>
     ensures { result ≡ value_why camel.now }
@@ -105,7 +100,6 @@ fn value_why(camel: &[u8]) -> Option<Why>
     None
 }
 
-/// Adds the value at this place among the values of the setting, where its name is refused.
 #[tactic(auto, unfolding(crate::specs::Groups::value_refused))]
 fn push_value(
     alloc: Global,
@@ -122,7 +116,6 @@ fn push_value(
     push_refused(out, place, part, value_why(camel.as_bytes()))
 }
 
-/// Adds the values of the setting whose names are refused.
 fn push_values(
     alloc: Global,
     out: &mut Vec<RefusedName>,
@@ -138,25 +131,7 @@ fn push_values(
     Ok(())
 }
 
-/// Adds what is refused of the enum of this name.
 #[tactic(auto, unfolding(crate::specs::Groups::enum_refused))]
-fn push_enum(
-    alloc: Global,
-    out: &mut Vec<RefusedName>,
-    place: Place,
-    setting: usize,
-    name: &Text,
-    values: &ValueNames,
-) -> Result<(), AllocError>
-    ensures { OnOk result (out.new.items ≡ out.old.items ++ enum_refused place setting name.now values.now) }
-{
-    let camel = camel_case(alloc, name)?;
-    let why = enum_name_why(camel.as_bytes());
-    push_refused(out, place, Part::SettingType(setting as u64), why)?;
-    push_values(alloc, out, place, setting, values.as_slice())
-}
-
-/// Adds what is refused of what the setting is.
 fn push_specific(
     alloc: Global,
     out: &mut Vec<RefusedName>,
@@ -169,12 +144,16 @@ fn push_specific(
 {
     match specific {
         SpecificSetting::Bool(_) => Ok(()),
-        SpecificSetting::Enum(values) => push_enum(alloc, out, place, number, name, values),
+        SpecificSetting::Enum(values) => {
+            let camel = camel_case(alloc, name)?;
+            let why = enum_name_why(camel.as_bytes());
+            push_refused(out, place, Part::SettingType(number as u64), why)?;
+            push_values(alloc, out, place, number, values.as_slice())
+        }
         SpecificSetting::Num(_) => Ok(()),
     }
 }
 
-/// Adds what is refused of the setting at this place among the settings.
 #[tactic(auto, unfolding(crate::specs::Groups::setting_refused))]
 fn push_setting(
     alloc: Global,
@@ -197,7 +176,6 @@ fn push_setting(
     )
 }
 
-/// Adds what is refused of the settings.
 fn push_settings(
     alloc: Global,
     out: &mut Vec<RefusedName>,
@@ -212,7 +190,6 @@ fn push_settings(
     Ok(())
 }
 
-/// Adds what is refused of the group with this number.
 #[tactic(auto, unfolding(crate::specs::Groups::group_refused))]
 fn push_group(
     alloc: Global,
@@ -232,7 +209,6 @@ fn push_group(
     push_settings(alloc, out, place, group.settings())
 }
 
-/// Adds what is refused of the groups.
 pub(crate) fn push_groups(
     alloc: Global,
     out: &mut Vec<RefusedName>,

@@ -2,34 +2,31 @@ ghost use Rattle.std.specs.Prelude.{◌≡◌, ◌<◌, ◌||◌, ◌++◌, ℕ,
 ghost use Rattle.std.specs.List.{flat_map};
 ghost use Rattle.meta_operands.specs.Operand.{variable_of, variables_of};
 ghost use Rattle.meta_inst.specs.Operands.{AreOf};
-ghost use Rattle.meta_rust_words.specs.Forms.{has_form};
-ghost use Rattle.meta_rust_words.specs.Known.{known};
+ghost use Rattle.meta_rust_names.specs.Forms.{has_form};
+ghost use Rattle.meta_rust_names.specs.Known.{known};
 ghost use Rattle.meta_rust_names.specs.Methods.{is_form, meets_some};
 ghost use Rattle.meta_rust_names.specs.Inputs.{block_names, names_of_input, block_why, operand_controls, is_listed};
 ghost use Rattle.meta_rust_names.specs.Inputs.{is_control_local, is_list_local, is_imm_local, local_why};
 ghost use Rattle.meta_rust_names.specs.Inputs.{earlier_why, input_why, is_documented, input_doc_why, input_refused};
 ghost use Rattle.meta_rust_names.specs.Inputs.{inputs_refused};
 
+use super::comments::{doc_why, type_why};
+use super::names::{Names, is_named};
+use super::refused::{Part, RefusedName, Why, or_why, push_refused};
 use super::variants::variant_why;
+use super::words::word_why;
 use meta_inst::{InstructionContent, PolymorphicInfo};
 use meta_operands::{InstructionFormat, Operand};
-use meta_rust_words::{
-    Names, Part, RefusedName, Why, doc_why, is_named, or_why, push_refused, type_why, word_why,
-};
 use meta_types::Place;
 use meta_typevar::TypeVars;
 use std::alloc::{AllocError, Global};
 
-/// The name and then these letters.
 fn behind(alloc: Global, name: &str, letters: &str) -> Result<String, AllocError>
     ensures { IfOk result (λ text. string_bytes text ≡ name.now ++ letters.now) }
 {
-    let mut text = String::from_str(alloc, name)?;
-    text.push_str(letters)?;
-    Ok(text)
+    format!(in alloc; "{name}{letters}")
 }
 
-/// Whether a name of a block of this name is known.
 fn meets_block(alloc: Global, names: &Names, name: &str) -> Result<bool, AllocError>
     ensures { IfOk result (λ met. met ≡ meets_some (known names.now) (block_names name.now)) }
 {
@@ -44,7 +41,6 @@ fn meets_block(alloc: Global, names: &Names, name: &str) -> Result<bool, AllocEr
     names.meets(alloc, args.as_str())
 }
 
-/// Whether a name of the input is known.
 fn meets_input(alloc: Global, names: &Names, input: &Operand) -> Result<bool, AllocError>
     ensures { IfOk result (λ met. met ≡ meets_some (known names.now) (names_of_input input.now)) }
 {
@@ -70,7 +66,6 @@ fn add_forms_behind(
     names.add_forms(alloc, text.as_str())
 }
 
-/// Adds the names of a block of this name.
 fn add_block(alloc: Global, names: &mut Names, name: &str) -> Result<(), AllocError>
     ensures { OnOk result ((text : List ℕ) → known names.new text ≡ (is_form (block_names name.now) text || known names.old text)) }
 {
@@ -79,7 +74,6 @@ fn add_block(alloc: Global, names: &mut Names, name: &str) -> Result<(), AllocEr
     names.add_forms(alloc, name)
 }
 
-/// Adds the names of the input.
 fn add_input(alloc: Global, names: &mut Names, input: &Operand) -> Result<(), AllocError>
     ensures { OnOk result ((text : List ℕ) → known names.new text ≡ (is_form (names_of_input input.now) text || known names.old text)) }
 {
@@ -106,7 +100,6 @@ fn block_why(instruction: &InstructionContent, input: &Operand) -> Option<Why>
     None
 }
 
-/// Whether an operand tells the type that controls.
 fn operand_controls(info: Option<PolymorphicInfo>) -> bool
     ensures { result ≡ operand_controls info }
 {
@@ -123,7 +116,6 @@ fn is_listed(input: &Operand) -> bool
     input.is_value() || input.is_varargs()
 }
 
-/// Whether the name is that of the variable which keeps the type that controls.
 #[tactic(auto, unfolding(crate::specs::Inputs::is_control_local))]
 fn is_control_local(instruction: &InstructionContent, name: &[u8]) -> bool
     ensures { result ≡ is_control_local instruction.now name.now }
@@ -141,7 +133,6 @@ fn is_list_local(format: &InstructionFormat, input: &Operand) -> bool
         && (is_named(b"vlist", name) || (is_listed(input) && is_named(b"pool", name)))
 }
 
-/// Whether the name is that of the immediate's type.
 #[tactic(auto, unfolding(crate::specs::Inputs::is_imm_local))]
 fn is_imm_local(instruction: &InstructionContent, name: &[u8]) -> bool
     ensures { result ≡ is_imm_local instruction.now name.now }
@@ -182,7 +173,6 @@ fn earlier_why(alloc: Global, names: &Names, input: &Operand) -> Result<Option<W
     Ok(None)
 }
 
-/// Why the input can't have its name.
 #[tactic(auto, unfolding(crate::specs::Inputs::input_why))]
 fn input_why(
     alloc: Global,
@@ -200,14 +190,13 @@ fn input_why(
     Ok(or_why(block_why(instruction, input), word))
 }
 
-/// Whether the input's documentation stands in a comment.
 fn is_documented(instruction: &InstructionContent, input: &Operand) -> bool
     ensures { result ≡ is_documented instruction.now input.now }
 {
     instruction.inst_builder_imm_method() || !(input.kind.is_block() || input.kind.is_raw_block())
 }
 
-/// Why it can't stand there. The input's variable, where it is a value, is of the registry.
+/// Why the input's documentation can't stand in a comment, where it does. The input's variable, if it is a value, is of the registry.
 #[tactic(auto, unfolding(crate::specs::Inputs::input_doc_why))]
 fn input_doc_why(vars: &TypeVars, instruction: &InstructionContent, input: &Operand) -> Option<Why>
     requires { (tv : ℕ) → variable_of input.now ≡ Some tv → tv < length vars.now }
@@ -219,7 +208,6 @@ fn input_doc_why(vars: &TypeVars, instruction: &InstructionContent, input: &Oper
     None
 }
 
-/// Adds what is refused of the input at this place among the inputs. Its variable, where it is a value, is of the registry.
 #[tactic(auto, unfolding(crate::specs::Inputs::input_refused))]
 fn push_input(
     out: &mut Vec<RefusedName>,

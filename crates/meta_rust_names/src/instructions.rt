@@ -1,24 +1,22 @@
-ghost use Rattle.std.specs.Prelude.{◌≡◌, ◌<◌, ◌+◌, ◌^◌, ◌++◌, ℕ, List, Some, OnOk, IfOk, length, slice_get};
+ghost use Rattle.std.specs.Prelude.{◌≡◌, ◌<◌, ◌+◌, ◌^◌, ◌++◌, ℕ, Some, OnOk, IfOk, length, slice_get};
 ghost use Rattle.std.specs.List.{flat_map, enumerate_from};
 ghost use Rattle.meta_operands.specs.Operand.{variable_of, variables_of};
 ghost use Rattle.meta_inst.specs.Operands.{AreOf};
-ghost use Rattle.meta_builder_text.specs.Operands.{variable_name};
-ghost use Rattle.meta_builder_text.specs.Arguments.{asked_control};
-ghost use Rattle.meta_operands.specs.Operand.{doc_at};
-ghost use Rattle.meta_builder_text.specs.BuilderText.{HasVariablesOf, HaveVariablesOf};
-ghost use Rattle.meta_rust_words.specs.Known.{known};
+ghost use Rattle.meta_rust_text.specs.BuilderText.{HasVariablesOf, HaveVariablesOf};
+ghost use Rattle.meta_rust_names.specs.Known.{known};
 ghost use Rattle.meta_rust_names.specs.Methods.{method_name};
 ghost use Rattle.meta_rust_names.specs.Instructions.{own_name_why, output_refused, outputs_refused, hidden_why, control_why};
 ghost use Rattle.meta_rust_names.specs.Instructions.{control_refused, operands_refused, with_format, instruction_refused};
 
+use super::comments::{comment_why, doc_why};
 use super::inputs::push_inputs;
-use super::methods::{is_base_method, method_name};
-use meta_inst::{InstructionContent, PolymorphicInfo};
+use super::methods::is_base_method;
+use super::names::{Names, is_named};
+use super::refused::{Part, RefusedName, Why, or_why, push_refused};
+use super::words::{is_keyword, word_why};
+use meta_inst::InstructionContent;
 use meta_operands::{FormatTable, InstructionFormat, Operand};
-use meta_rust_words::{
-    Names, Part, RefusedName, Why, comment_why, doc_why, is_keyword, is_named, or_why,
-    push_refused, word_why,
-};
+use meta_rust_text::{asked_control, variable_doc, variable_name};
 use meta_types::Place;
 use meta_typevar::{TypeVar, TypeVars};
 use std::alloc::{AllocError, Global};
@@ -33,7 +31,7 @@ fn own_name_why(
 ) -> Option<Why>
     ensures { result ≡ own_name_why (known formats.now) (known imm_methods.now) instruction.now.camel_name (method_name instruction.now) }
 {
-    let method = method_name(instruction);
+    let method = instruction.snake_name();
     if is_keyword(method.as_bytes()) {
         return Some(Why::Keyword);
     }
@@ -52,7 +50,6 @@ fn own_name_why(
     None
 }
 
-/// Adds what is refused of the output at this place among the outputs. Its variable, where it is a value, is of the registry.
 #[tactic(auto, unfolding(crate::specs::Instructions::output_refused))]
 fn push_output(
     out: &mut Vec<RefusedName>,
@@ -79,7 +76,6 @@ fn push_output(
     )
 }
 
-/// Adds what is refused of the outputs. The variables of those that are values are of the registry.
 fn push_outputs(
     out: &mut Vec<RefusedName>,
     vars: &TypeVars,
@@ -93,37 +89,6 @@ fn push_outputs(
         push_output(out, vars, place, number, &outputs[number])?;
     }
     Ok(())
-}
-
-/// The control, where it is an argument.
-fn asked_control(info: Option<PolymorphicInfo>) -> Option<TypeVar>
-    ensures { result ≡ asked_control info }
-{
-    let info = info?;
-    if info.use_typevar_operand {
-        return None;
-    }
-    Some(info.ctrl_typevar)
-}
-
-/// The name of the variable. It is empty if the variable isn't of the registry.
-fn variable_name(vars: &TypeVars, tv: TypeVar) -> &str
-    ensures { result.now ≡ variable_name vars.now tv }
-{
-    if !vars.is_of(tv) {
-        return "";
-    }
-    vars.content(tv).name.as_str()
-}
-
-/// The documentation of the variable. It is empty if the variable isn't of the registry.
-fn variable_doc(vars: &TypeVars, tv: TypeVar) -> &str
-    ensures { result.now ≡ doc_at (slice_get vars.now tv) }
-{
-    if !vars.is_of(tv) {
-        return "";
-    }
-    vars.content(tv).doc.as_str()
 }
 
 /// Whether something beside the variable that controls has this name, and what, where these are the names of the inputs.
@@ -163,7 +128,6 @@ fn control_why(
     Ok(or_why(word_why(name.as_bytes()), hidden))
 }
 
-/// Adds what is refused of the control, where it is an argument.
 fn push_control(
     alloc: Global,
     out: &mut Vec<RefusedName>,
@@ -243,13 +207,10 @@ fn push_with_format(
 /// The names of the methods that instructions can't have.
 #[derive(Drop)]
 pub(crate) struct Others {
-    /// Those of formats.
     pub(crate) formats: Names,
-    /// Those that take an immediate.
     pub(crate) imm_methods: Names,
 }
 
-/// Adds what is refused of the instruction at this place among all. The variables of its operands are of the registry.
 #[tactic(auto, unfolding(crate::specs::Instructions::instruction_refused))]
 fn push_instruction(
     alloc: Global,
@@ -271,7 +232,6 @@ fn push_instruction(
     push_with_format(alloc, out, vars, formats, instruction, place)
 }
 
-/// Adds what is refused of the instructions. The variables of their operands are of the registry.
 pub(crate) fn push_instructions(
     alloc: Global,
     out: &mut Vec<RefusedName>,

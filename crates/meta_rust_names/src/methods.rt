@@ -1,11 +1,11 @@
 ghost use Rattle.std.specs.Prelude.{◌≡◌, ◌||◌, ◌++◌, ◌∷◌, [], ℕ, List, OnOk, IfOk, slice_get};
-ghost use Rattle.meta_rust_words.specs.Known.{known};
-ghost use Rattle.meta_rust_names.specs.Methods.{is_base_method, name_of_format, format_names, method_name, is_among, three_names};
+ghost use Rattle.meta_rust_names.specs.Known.{known};
+ghost use Rattle.meta_rust_names.specs.Methods.{is_base_method, name_of_format, format_names, is_among, three_names};
 ghost use Rattle.meta_rust_names.specs.Methods.{instruction_methods, imm_methods_of, imm_methods};
 
+use super::names::Names;
 use meta_inst::InstructionContent;
 use meta_operands::{FormatId, FormatTable};
-use meta_rust_words::Names;
 use std::alloc::{AllocError, Global};
 
 /// Whether the name is that of a method of `InstBuilderBase`.
@@ -19,20 +19,12 @@ pub(crate) fn is_base_method(name: &[u8]) -> bool
         || name == b"data_flow_graph_mut".as_slice()
 }
 
-/// The name of the method that builds the instruction.
-pub(crate) fn method_name(instruction: &InstructionContent) -> &str
-    ensures { result.now ≡ method_name instruction.now }
-{
-    instruction.snake_name()
-}
-
 fn add_one(alloc: Global, names: &mut Names, name: &str) -> Result<(), AllocError>
     ensures { OnOk result ((text : List ℕ) → known names.new text ≡ (is_among (name.now ∷ []) text || known names.old text)) }
 {
     names.add(String::from_str(alloc, name)?)
 }
 
-/// Adds the name of the format with this number.
 fn add_format(
     alloc: Global,
     names: &mut Names,
@@ -48,7 +40,6 @@ fn add_format(
     add_one(alloc, names, formats.get(id).name.as_str())
 }
 
-/// The names of the formats with these numbers.
 pub(crate) fn format_names(
     alloc: Global,
     formats: &FormatTable,
@@ -63,19 +54,6 @@ pub(crate) fn format_names(
     Ok(names)
 }
 
-/// Adds the name of the method that builds the instruction.
-fn add_method(
-    alloc: Global,
-    names: &mut Names,
-    instruction: &InstructionContent,
-) -> Result<(), AllocError>
-    ensures { OnOk result ((text : List ℕ) → known names.new text
-        ≡ (is_among (method_name instruction.now ∷ []) text || known names.old text)) }
-{
-    add_one(alloc, names, method_name(instruction))
-}
-
-/// The names of the methods that build the instructions.
 pub(crate) fn instruction_methods(
     alloc: Global,
     instructions: &[InstructionContent],
@@ -84,19 +62,16 @@ pub(crate) fn instruction_methods(
 {
     let mut names = Names::new(alloc);
     for instruction in instructions {
-        add_method(alloc, &mut names, instruction)?;
+        add_one(alloc, &mut names, instruction.snake_name())?;
     }
     Ok(names)
 }
 
-/// Adds the name with these letters after it.
 fn add_behind(alloc: Global, names: &mut Names, name: &str, letters: &str) -> Result<(), AllocError>
     ensures { OnOk result ((text : List ℕ) → known names.new text
         ≡ (is_among ((name.now ++ letters.now) ∷ []) text || known names.old text)) }
 {
-    let mut method = String::from_str(alloc, name)?;
-    method.push_str(letters)?;
-    add_one(alloc, names, method.as_str())
+    names.add(format!(in alloc; "{name}{letters}")?)
 }
 
 /// Adds the names of the methods of the instruction that take an immediate for its last value.
@@ -108,7 +83,6 @@ fn add_three(alloc: Global, names: &mut Names, name: &str) -> Result<(), AllocEr
     add_behind(alloc, names, name, "_imm_s")
 }
 
-/// Adds these, where the instruction has such methods.
 fn add_imm_methods(
     alloc: Global,
     names: &mut Names,
@@ -120,10 +94,9 @@ fn add_imm_methods(
     if !instruction.inst_builder_imm_method() {
         return Ok(());
     }
-    add_three(alloc, names, method_name(instruction))
+    add_three(alloc, names, instruction.snake_name())
 }
 
-/// The names of the methods that take an immediate for the last value of an instruction.
 pub(crate) fn imm_methods(
     alloc: Global,
     instructions: &[InstructionContent],

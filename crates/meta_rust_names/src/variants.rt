@@ -1,10 +1,10 @@
 ghost use Rattle.std.specs.Prelude.{◌≡◌};
 ghost use Rattle.std.specs.List.{list_any};
-ghost use Rattle.meta_operands.specs.Kind.{enum_values_in};
-ghost use Rattle.meta_rust_names.specs.Variants.{is_same_identifier, stands_for, is_variant, variant_why};
+ghost use Rattle.meta_rust_names.specs.Variants.{is_same_identifier, stands_for, variant_why};
 
+use super::names::is_named;
+use super::refused::Why;
 use meta_operands::{EnumValues, OperandKind, OperandKindFields};
-use meta_rust_words::{Why, is_named};
 
 /// Whether the names are one identifier, raw or not.
 fn is_same_identifier(a: &[u8], b: &[u8]) -> bool
@@ -13,7 +13,6 @@ fn is_same_identifier(a: &[u8], b: &[u8]) -> bool
     is_named(a, b) || is_named(b, a)
 }
 
-/// Whether one of the values stands for the variant of the name.
 fn has_variant(values: &EnumValues, name: &[u8]) -> bool
     ensures { result ≡ list_any (stands_for name.now) values.now }
 {
@@ -25,23 +24,17 @@ fn has_variant(values: &EnumValues, name: &[u8]) -> bool
     false
 }
 
-/// Whether one of the values of an immediate stands for the variant of the name. Other operands have no values.
-fn is_variant(fields: &OperandKindFields, name: &[u8]) -> bool
-    ensures { result ≡ is_variant (enum_values_in fields.now) name.now }
-{
-    match fields {
-        OperandKindFields::ImmEnum(values) => has_variant(values, name),
-        _ => false,
-    }
-}
-
-/// Why a field or an input of the kind can't have the name.
 #[tactic(auto, unfolding(crate::specs::Variants::variant_why))]
 pub(crate) fn variant_why(kind: &OperandKind, name: &[u8]) -> Option<Why>
     ensures { result ≡ variant_why kind.now name.now }
 {
-    if is_variant(&kind.fields, name) {
-        return Some(Why::OwnVariant);
+    match &kind.fields {
+        OperandKindFields::ImmEnum(values) => {
+            if has_variant(values, name) {
+                return Some(Why::OwnVariant);
+            }
+            None
+        }
+        _ => None,
     }
-    None
 }

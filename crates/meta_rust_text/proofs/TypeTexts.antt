@@ -10,7 +10,7 @@ use Rattle.meta_types.specs.Lane.{lane_parts}
 use Rattle.meta_types.specs.LaneTypes.{lane_types}
 use Rattle.meta_types.specs.AllTypes.{scalars}
 use Rattle.meta_types.specs.declared.lane.LaneType.{LaneType}
-use Rattle.meta_rust_lines.proofs.Pieces.{moved, ended}
+use Rattle.meta_text.proofs.Pieces.{moved, ended}
 use Rattle.meta_rust_text.specs.TypesText.{type_constant, sized_text, vectors_of, dynamic_vectors_of, vector_sizes, types_text}
 
 -- the texts of the lane types that are left, and what was added before

@@ -1,9 +1,9 @@
-ghost use Rattle.meta_builder_text.specs.BuilderText.{builder_text};
+ghost use Rattle.meta_rust_text.specs.BuilderText.{builder_text};
 ghost use Rattle.meta_rust_text.specs.Written.{WritesMade};
 
+use super::builder_items::builder_text;
 use super::written::write_made;
-use meta_builder_text::builder_text;
-use meta_declared::Built;
+use meta_build::Built;
 use meta_text::{Sink, WriteError};
 use std::alloc::Global;
 

@@ -3,11 +3,9 @@ ghost use Rattle.meta_rust_text.specs.InstructionsText.{instructions_text};
 ghost use Rattle.meta_rust_text.specs.Written.{WritesMade};
 
 use super::written::write_made;
-use meta_declared::Built;
-use meta_instructions_enums_text::{formats_in_use, push_data, push_formats, push_opcodes};
-use meta_instructions_methods_text::push_data_impl;
-use meta_rust_lines::push_gap;
-use meta_text::{Sink, WriteError};
+use meta_build::Built;
+use meta_rust_insts::{formats_in_use, push_data, push_data_impl, push_formats, push_opcodes};
+use meta_text::{Sink, WriteError, push_gap};
 use std::alloc::{AllocError, Global};
 
 /// Makes the text of instructions as Rust source: the formats in use, the data of an instruction of each format with its methods, and the

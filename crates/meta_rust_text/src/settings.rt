@@ -1,11 +1,11 @@
 ghost use Rattle.std.specs.Prelude.{map};
 ghost use Rattle.meta_settings.specs.LaidOut.{built_of};
-ghost use Rattle.meta_settings_text.specs.SettingsText.{settings_text};
+ghost use Rattle.meta_rust_text.specs.SettingsText.{settings_text};
 ghost use Rattle.meta_rust_text.specs.Written.{WritesMade};
 
+use super::group_texts::settings_text;
 use super::written::write_made;
-use meta_declared::Built;
-use meta_settings_text::settings_text;
+use meta_build::Built;
 use meta_text::{Sink, WriteError};
 use std::alloc::Global;
 

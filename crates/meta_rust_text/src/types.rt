@@ -16,7 +16,6 @@ use std::alloc::{AllocError, Global};
 /// The sizes that have vectors, in bits.
 const VECTOR_SIZES: [u64; 6] = [16, 32, 64, 128, 256, 512];
 
-/// Adds a constant with this documentation, name and number.
 #[tactic(auto, unfolding(crate::specs::TypesText::constant_text))]
 fn push_constant(out: &mut String, doc: &str, name: &str, number: u16) -> Result<(), AllocError>
     ensures { OnOk result (string_bytes out.new ≡ string_bytes out.old ++ constant_text doc.now name.now number) }
@@ -83,7 +82,6 @@ fn push_dynamic_vector(
     Ok(())
 }
 
-/// Adds the fixed vectors of `bits` bits.
 fn push_vectors(alloc: Global, out: &mut String, bits: u64) -> Result<(), AllocError>
     requires { Contains vector_sizes bits }
     ensures { OnOk result (string_bytes out.new ≡ string_bytes out.old ++ flat_map type_constant (vectors_of bits)) }
@@ -94,7 +92,6 @@ fn push_vectors(alloc: Global, out: &mut String, bits: u64) -> Result<(), AllocE
     Ok(())
 }
 
-/// Adds the dynamic vectors of at least `bits` bits.
 fn push_dynamic_vectors(alloc: Global, out: &mut String, bits: u64) -> Result<(), AllocError>
     requires { Contains vector_sizes bits }
     ensures { OnOk result (string_bytes out.new ≡ string_bytes out.old ++ flat_map type_constant (dynamic_vectors_of bits)) }
@@ -105,7 +102,6 @@ fn push_dynamic_vectors(alloc: Global, out: &mut String, bits: u64) -> Result<()
     Ok(())
 }
 
-/// Adds the vectors of each size.
 fn push_sizes(alloc: Global, out: &mut String) -> Result<(), AllocError>
     ensures { OnOk result (string_bytes out.new ≡ string_bytes out.old
         ++ flat_map (λ bits. flat_map type_constant (vectors_of bits) ++ flat_map type_constant (dynamic_vectors_of bits))

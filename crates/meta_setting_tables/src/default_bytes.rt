@@ -13,7 +13,6 @@ fn zeros(alloc: Global, size: u8) -> Result<Vec<u8>, AllocError>
     vec![in alloc; 0; size as usize]
 }
 
-/// Joins the defaults of the settings with the bytes, which are zero at first.
 fn join_defaults(bytes: &mut [u8], settings: &[Setting])
     requires zero { (byte : ℕ) → byte < length bytes.old → slice_get bytes.old byte ≡ Some 0 }
     requires within { (k : ℕ) (s : PlacedSetting) → slice_get settings.now k ≡ Some s → s.byte_offset < length bytes.old }

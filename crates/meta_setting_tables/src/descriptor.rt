@@ -39,7 +39,6 @@ impl Detail {
         }
     }
 
-    /// Whether the entry is an enum or a number, which have a byte of their own.
     pub(crate) fn has_own_byte(self) -> bool
         ensures { result ≡ describes_own_byte self }
     {
@@ -103,4 +102,18 @@ impl Descriptor {
         }
         self.detail.same(other.detail)
     }
+}
+
+pub(crate) fn same_descriptors(one: &[Descriptor], other: &[Descriptor]) -> bool
+    ensures { IsTrue result ↔ (one.now ≡ other.now) }
+{
+    if one.len() != other.len() {
+        return false;
+    }
+    for k in 0..one.len() {
+        if !one[k].same(&other[k]) {
+            return false;
+        }
+    }
+    true
 }

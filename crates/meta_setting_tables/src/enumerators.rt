@@ -44,7 +44,6 @@ fn numbers_of<'g>(
     Ok(numbers)
 }
 
-/// Copies of the texts that have these numbers.
 fn copied_texts(alloc: Global, texts: &[&Text], numbers: &[usize]) -> Result<Vec<Text>, AllocError>
     requires { All (λ number. number < length texts.now) numbers.now }
     ensures { IfOk result (λ v. v.items ≡ texts_numbered (pointed_to texts.now) numbers.now) }
@@ -79,7 +78,6 @@ impl<'g> Enumerators<'g> {
         self.numbers.add(numbers.as_slice())
     }
 
-    /// A copy of the enumerators.
     pub(crate) fn copied(&self, alloc: Global) -> Result<Vec<Text>, AllocError>
         ensures { IfOk result (λ v. v.items ≡ self.now) }
     {

@@ -1,11 +1,11 @@
-ghost use Rattle.std.specs.Prelude.{◌≡◌, ◌↔◌, ◌+◌, ◌*◌, ◌++◌, ◌≤◌, ◌<◌, ℕ, List, [], length, map, take, drop, slice_get, slice_index_or};
+ghost use Rattle.std.specs.Prelude.{◌≡◌, ◌↔◌, ◌+◌, ◌*◌, ◌≤◌, ◌<◌, ℕ, List, [], length, map, take, drop, slice_get, slice_index_or};
 ghost use Rattle.std.specs.Prelude.{option_map, Contains, All, Some, None, false, IsTrue, IsSome, IfSome, IfNone, IfOk, OnOk};
 ghost use Rattle.meta_types.specs.SharedNames.{AreDifferentNames};
 ghost use Rattle.meta_settings.specs.declared.setting.SpecificSetting.TheVariants.{Enum};
 ghost use Rattle.meta_settings.specs.Layout.{PlacedSetting, BuiltPreset, Layout, IsSized};
 ghost use Rattle.meta_setting_tables.specs.declared.descriptor.Descriptor.{Descriptor};
 ghost use Rattle.meta_setting_tables.specs.BuiltLayout.{HaveNumbers, IsBuiltLayout};
-ghost use Rattle.meta_setting_tables.specs.Descriptor.{IsDetailOf, DescribesSetting, DescribesEntry, setting_descriptor, preset_descriptor};
+ghost use Rattle.meta_setting_tables.specs.Descriptor.{IsDetailOf, DescribesSetting, DescribesEntry, preset_descriptor};
 ghost use Rattle.meta_setting_tables.specs.EnumeratorList.{enumerators_of, built_values_of, with_values, HasGrown};
 ghost use Rattle.meta_unique.specs.NameSlots.{AreNameSlots, NameAnswers, IsNameLookup};
 ghost use Rattle.meta_setting_tables.specs.FoundSetting.{entry_names, laid_entry_count, FindsEntry};
@@ -17,11 +17,10 @@ ghost use Rattle.meta_setting_tables.specs.GroupTables.{names_in, IsInside, IsPr
 ghost use Rattle.meta_setting_tables.specs.GroupTables.{Applies};
 
 use super::default_bytes::default_bytes;
-use super::descriptor::{Descriptor, Detail};
+use super::descriptor::{Descriptor, Detail, same_descriptors};
 use super::enumerators::Enumerators;
 use super::parts::GroupParts;
 use super::preset_masks::{join, preset_masks};
-use super::same::{same_bytes, same_descriptors};
 use meta_settings::{Preset, Setting, SettingGroup, SpecificSetting};
 use meta_types::{Text, same_texts};
 use meta_unique::{Steps, name_slots, probe, probe_counted, same_slots, simple_hash};
@@ -66,7 +65,6 @@ impl Model for GroupTables {
     }) };
 }
 
-/// The default of an entry whose descriptor points inside these default bytes.
 fn default_of(defaults: &[u8], descriptor: &Descriptor) -> Option<u8>
     requires { (masks : ℕ) × IsInside (length defaults.now) masks descriptor.now.offset descriptor.now.detail }
     ensures { result ≡ default_in (slice_index_or defaults.now descriptor.now.offset 0) descriptor.now.detail }
@@ -108,39 +106,6 @@ fn detail_of<'g>(
     }
 }
 
-fn describe_setting(
-    alloc: Global,
-    setting: &Setting,
-    detail: Detail,
-) -> Result<Descriptor, AllocError>
-    ensures { IfOk result (λ d. d ≡ setting_descriptor setting.now detail) }
-{
-    Ok(Descriptor {
-        name: setting.name().copy(alloc)?,
-        description: setting.description().copy(alloc)?,
-        offset: u32::from(setting.byte_offset()),
-        detail,
-    })
-}
-
-/// The descriptor of the preset with this number, if each preset has `size` masks.
-fn describe_preset(
-    alloc: Global,
-    preset: &Preset,
-    number: u16,
-    size: u8,
-) -> Result<Descriptor, AllocError>
-    ensures { IfOk result (λ d. d ≡ preset_descriptor size number preset.now) }
-{
-    Ok(Descriptor {
-        name: preset.name().copy(alloc)?,
-        description: preset.description().copy(alloc)?,
-        offset: u32::from(number) * u32::from(size),
-        detail: Detail::Preset,
-    })
-}
-
-/// The descriptors of the settings, in order. The values of enums are added to the enumerators, which are empty at first.
 fn describe_settings<'g>(
     alloc: Global,
     settings: &'g [Setting],
@@ -157,12 +122,16 @@ fn describe_settings<'g>(
     let mut descriptors = Vec::with_capacity(alloc, settings.len())?;
     for setting in settings {
         let detail = detail_of(alloc, setting.specific(), enumerators)?;
-        descriptors.push(describe_setting(alloc, setting, detail)?)?;
+        descriptors.push(Descriptor {
+            name: setting.name().copy(alloc)?,
+            description: setting.description().copy(alloc)?,
+            offset: u32::from(setting.byte_offset()),
+            detail,
+        })?;
     }
     Ok(descriptors)
 }
 
-/// The descriptors of the presets, in order, if each has `size` masks.
 fn describe_presets(
     alloc: Global,
     presets: &[Preset],
@@ -175,40 +144,14 @@ fn describe_presets(
 {
     let mut descriptors = Vec::with_capacity(alloc, presets.len())?;
     for (k, preset) in presets.iter().enumerate() {
-        descriptors.push(describe_preset(alloc, preset, k as u16, size)?)?;
+        descriptors.push(Descriptor {
+            name: preset.name().copy(alloc)?,
+            description: preset.description().copy(alloc)?,
+            offset: u32::from(k as u16) * u32::from(size),
+            detail: Detail::Preset,
+        })?;
     }
     Ok(descriptors)
-}
-
-fn joined(
-    mut first: Vec<Descriptor>,
-    mut second: Vec<Descriptor>,
-) -> Result<Vec<Descriptor>, AllocError>
-    ensures { IfOk result (λ v. v.items ≡ first.items ++ second.items) }
-{
-    first.append(&mut second)?;
-    Ok(first)
-}
-
-/// The descriptors of the entries of a group, in order. The values of enums are added to the enumerators, which are empty at first.
-fn descriptors_of<'g>(
-    alloc: Global,
-    group: &'g SettingGroup,
-    enumerators: &mut Enumerators<'g>,
-) -> Result<Vec<Descriptor>, AllocError>
-    requires built { IsBuiltLayout group.now }
-    requires empty { enumerators.old ≡ [] }
-    ensures sized { IsSized group.now.settings group.now.bool_start_byte_offset group.now.settings_size }
-    ensures small { group.now.settings_size ≤ 255 }
-    ensures enumerators { OnOk result (enumerators.new ≡ enumerators_of group.now.settings) }
-    ensures names { IfOk result (λ v. names_in v.items ≡ entry_names group.now) }
-    ensures entries { IfOk result (λ v. (e : ℕ) (d : Descriptor) → slice_get v.items e ≡ Some d
-        → DescribesEntry group.now enumerators.new e d) }
-{
-    let size = group.settings_size();
-    let settings = describe_settings(alloc, group.settings(), enumerators)?;
-    let presets = describe_presets(alloc, group.presets(), size)?;
-    joined(settings, presets)
 }
 
 /// The descriptors of a group, and the values that those of its enums point to.
@@ -218,7 +161,6 @@ struct DescribedEntries {
     enumerators: Vec<Text>,
 }
 
-/// The descriptors of the entries of a group, with the values of its enums. These are added to the enumerators, which are empty at first.
 fn described_by<'g>(
     alloc: Global,
     group: &'g SettingGroup,
@@ -233,7 +175,10 @@ fn described_by<'g>(
     ensures entries { IfOk result (λ d. (e : ℕ) (own : Descriptor) → slice_get d.descriptors.items e ≡ Some own
         → DescribesEntry group.now d.enumerators.items e own) }
 {
-    let descriptors = descriptors_of(alloc, group, enumerators)?;
+    let size = group.settings_size();
+    let mut descriptors = describe_settings(alloc, group.settings(), enumerators)?;
+    let mut presets = describe_presets(alloc, group.presets(), size)?;
+    descriptors.append(&mut presets)?;
     Ok(DescribedEntries {
         enumerators: enumerators.copied(alloc)?,
         descriptors,
@@ -253,7 +198,6 @@ fn described(alloc: Global, group: &SettingGroup) -> Result<DescribedEntries, Al
     described_by(alloc, group, &mut enumerators)
 }
 
-/// The default bytes of a group, and the masks of its presets.
 #[derive(Drop)]
 struct SettingBytes {
     defaults: Vec<u8>,
@@ -305,7 +249,6 @@ impl GroupTables {
         })
     }
 
-    /// The tables with these parts, which must be those of well-formed tables.
     pub(crate) fn with_parts(alloc: Global, parts: GroupParts) -> Result<GroupTables, AllocError>
         requires { AreGoodParts parts }
         ensures parts { IfOk result (HasGroupParts parts) }
@@ -335,10 +278,10 @@ impl GroupTables {
         if !same_texts(&self.enumerators, &other.enumerators) {
             return false;
         }
-        if !same_bytes(&self.defaults, &other.defaults) {
+        if self.defaults != other.defaults {
             return false;
         }
-        if !same_bytes(&self.preset_masks, &other.preset_masks) {
+        if self.preset_masks != other.preset_masks {
             return false;
         }
         same_slots(&self.slots, &other.slots)

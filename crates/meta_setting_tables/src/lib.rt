@@ -12,7 +12,6 @@ mod group_tables;
 mod names;
 mod parts;
 mod preset_masks;
-mod same;
 mod setting_bytes;
 mod shape;
 

@@ -1,7 +1,5 @@
-ghost use Rattle.std.specs.Prelude.{◌≡◌, ◌↔◌, IfOk, IsTrue, All};
-ghost use Rattle.meta_types.specs.Name.{IsName};
+ghost use Rattle.std.specs.Prelude.{◌↔◌, IfOk, IsTrue};
 ghost use Rattle.meta_types.specs.SharedNames.{AreDistinct};
-ghost use Rattle.meta_settings.specs.GroupFaults.{IsPlainByte};
 ghost use Rattle.meta_setting_tables.specs.declared.descriptor.Descriptor.{Descriptor};
 ghost use Rattle.meta_setting_tables.specs.GroupTables.{names_in};
 ghost use Rattle.meta_setting_tables.specs.WellFormed.{AreWellNamed};
@@ -10,28 +8,6 @@ use super::descriptor::Descriptor;
 use meta_settings::is_plain_description;
 use meta_types::{EarlierNames, Text, are_names, is_name};
 use std::alloc::{AllocError, Global};
-
-fn have_names(entries: &[Descriptor]) -> bool
-    ensures { IsTrue result ↔ All (λ (d : Descriptor). IsName d.name) entries.now }
-{
-    for entry in entries {
-        if !is_name(&entry.name) {
-            return false;
-        }
-    }
-    true
-}
-
-fn have_plain_descriptions(entries: &[Descriptor]) -> bool
-    ensures { IsTrue result ↔ All (λ (d : Descriptor). All IsPlainByte d.description) entries.now }
-{
-    for entry in entries {
-        if !is_plain_description(&entry.description) {
-            return false;
-        }
-    }
-    true
-}
 
 /// Whether no two of the entries have the same name or the same camel case.
 fn have_distinct_names(alloc: Global, entries: &[Descriptor]) -> Result<bool, AllocError>
@@ -59,13 +35,16 @@ pub(crate) fn are_well_named(
     if !is_name(name) {
         return Ok(false);
     }
-    if !have_names(entries) {
+    if !entries.iter().all(|entry| is_name(&entry.name)) {
         return Ok(false);
     }
     if !are_names(enumerators) {
         return Ok(false);
     }
-    if !have_plain_descriptions(entries) {
+    if !entries
+        .iter()
+        .all(|entry| is_plain_description(&entry.description))
+    {
         return Ok(false);
     }
     have_distinct_names(alloc, entries)

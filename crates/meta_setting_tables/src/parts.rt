@@ -1,7 +1,6 @@
-ghost use Rattle.std.specs.Prelude.{◌≡◌, ◌↔◌, ◌≤◌, ◌<◌, length, IfOk, IfSome, IfNone, IsTrue};
+ghost use Rattle.std.specs.Prelude.{◌↔◌, ◌<◌, IfOk, IfSome, IfNone, IsTrue};
 ghost use Rattle.meta_setting_tables.specs.GroupTables.{GroupContents};
-ghost use Rattle.meta_setting_tables.specs.WellFormed.{KeepLimits, IsWellFormedGroup};
-ghost use Rattle.meta_setting_tables.specs.Shape.{IsShapeOf};
+ghost use Rattle.meta_setting_tables.specs.WellFormed.{IsWellFormedGroup};
 ghost use Rattle.meta_setting_tables.specs.Parts.{HasGroupParts, AreGoodParts};
 
 use super::descriptor::Descriptor;
@@ -13,13 +12,13 @@ use super::shape::Shape;
 use meta_types::Text;
 use std::alloc::{AllocError, Global};
 
-/// The most entries that a group may have.
 const MAX_ENTRIES: usize = 65_535;
-/// The most booleans that a group may have.
+
 const MAX_BOOLEANS: usize = 248;
+
 /// The most bytes that the settings of a group may take.
 const MAX_BYTES: usize = 255;
-/// The most enumerators that a group may have.
+
 const MAX_ENUMERATORS: usize = 65_535;
 
 /// The parts of the tables of a group: all but the slots of the names of its entries, which follow from the names.
@@ -37,18 +36,6 @@ pub struct GroupParts {
     pub preset_masks: Vec<u8>,
 }
 
-/// Whether the counts of entries of each kind, which `shape` has, and the count of enumerators are within the limits.
-fn keep_limits(shape: &Shape, entries: &[Descriptor], enumerators: &[Text]) -> bool
-    requires few { length entries.now ≤ 65535 }
-    requires shape { IsShapeOf entries.now shape.now }
-    ensures { IsTrue result ↔ KeepLimits entries.now enumerators.now }
-{
-    shape.booleans <= MAX_BOOLEANS
-        && shape.bytes <= MAX_BYTES
-        && enumerators.len() <= MAX_ENUMERATORS
-}
-
-/// Whether well-formed tables can have these parts.
 fn are_good(alloc: Global, parts: &GroupParts) -> Result<bool, AllocError>
     ensures { IfOk result (λ b. IsTrue b ↔ AreGoodParts parts.now) }
 {
@@ -58,7 +45,10 @@ fn are_good(alloc: Global, parts: &GroupParts) -> Result<bool, AllocError>
         return Ok(false);
     }
     let shape = Shape::of(entries);
-    if !keep_limits(&shape, entries, enumerators) {
+    if shape.booleans > MAX_BOOLEANS
+        || shape.bytes > MAX_BYTES
+        || enumerators.len() > MAX_ENUMERATORS
+    {
         return Ok(false);
     }
     if !are_placed(&shape, entries) {

@@ -6,7 +6,6 @@ ghost use Rattle.meta_setting_tables.specs.PresetMasks.{ArePresetMasks, AreJoine
 use meta_settings::SettingGroup;
 use std::alloc::{AllocError, Global};
 
-/// Adds the masks of a preset's layout.
 fn add_masks(masks: &mut Vec<u8>, layout: &[(u8, u8)]) -> Result<(), AllocError>
     ensures { OnOk result (masks.new.items ≡ masks.old.items ++ map (λ pair. pair.0) layout.now) }
 {
@@ -30,7 +29,6 @@ pub(crate) fn preset_masks(alloc: Global, group: &SettingGroup) -> Result<Vec<u8
     Ok(masks)
 }
 
-/// Joins each byte with the mask at its place.
 pub(crate) fn join(bytes: &mut [u8], masks: &[u8])
     requires { length bytes.old ≡ length masks.now }
     ensures { AreJoined bytes.old masks.now bytes.new }

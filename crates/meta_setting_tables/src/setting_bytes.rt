@@ -1,4 +1,4 @@
-ghost use Rattle.std.specs.Prelude.{◌≡◌, ◌↔◌, ◌≤◌, ◌<◌, ◌*◌, ◌+◌, ℕ, length, slice_get, Some, IsTrue, All};
+ghost use Rattle.std.specs.Prelude.{◌≡◌, ◌↔◌, ◌≤◌, ◌<◌, ◌*◌, ◌+◌, Some, IsTrue};
 ghost use Rattle.std.specs.Int.{bit_at};
 ghost use Rattle.meta_setting_tables.specs.declared.descriptor.Descriptor.{Descriptor};
 ghost use Rattle.meta_setting_tables.specs.WellFormed.{IsBooleanBit, HoldsBooleansAlone, HasFirstValue, AreGoodDefaults, AreGoodMasks};
@@ -7,7 +7,6 @@ ghost use Rattle.meta_setting_tables.specs.Shape.{IsShapeOf, HasSmallCounts};
 use super::descriptor::{Descriptor, Detail};
 use super::shape::Shape;
 
-/// Whether one of the booleans has this bit, below 8, of this byte.
 fn is_boolean_bit(shape: &Shape, byte: usize, bit: u8) -> bool
     requires byte { byte ≤ 255 }
     requires bit { bit < 8 }
@@ -19,7 +18,6 @@ fn is_boolean_bit(shape: &Shape, byte: usize, bit: u8) -> bool
     behind * 8 + usize::from(bit) < shape.booleans
 }
 
-/// Whether this bit, below 8, of a value of a byte is off, or one of the booleans has it.
 fn is_off_or_boolean(shape: &Shape, byte: usize, value: u8, bit: u8) -> bool
     requires byte { byte ≤ 255 }
     requires bit { bit < 8 }
@@ -31,7 +29,6 @@ fn is_off_or_boolean(shape: &Shape, byte: usize, value: u8, bit: u8) -> bool
     is_boolean_bit(shape, byte, bit)
 }
 
-/// Whether a value of a byte has only bits of booleans on.
 fn holds_booleans_alone(shape: &Shape, byte: usize, value: u8) -> bool
     requires { byte ≤ 255 }
     ensures { IsTrue result ↔ HoldsBooleansAlone shape.now.own_bytes shape.now.booleans byte value }
@@ -44,7 +41,6 @@ fn holds_booleans_alone(shape: &Shape, byte: usize, value: u8) -> bool
     true
 }
 
-/// Whether the default is the first value if the entry is an enum.
 fn has_first_value(defaults: &[u8], entry: &Descriptor) -> bool
     ensures { IsTrue result ↔ HasFirstValue defaults.now entry.now.offset entry.now.detail }
 {
@@ -56,33 +52,7 @@ fn has_first_value(defaults: &[u8], entry: &Descriptor) -> bool
     }
 }
 
-/// Whether the defaults of the enums are their first values.
-fn have_first_values(defaults: &[u8], entries: &[Descriptor]) -> bool
-    ensures { IsTrue result ↔ All (λ (d : Descriptor). HasFirstValue defaults.now d.offset d.detail) entries.now }
-{
-    for entry in entries {
-        if !has_first_value(defaults, entry) {
-            return false;
-        }
-    }
-    true
-}
-
-/// Whether only bits of booleans are on in the default bytes that come after those of the enums and numbers.
-fn are_boolean_bytes(shape: &Shape, defaults: &[u8]) -> bool
-    requires { length defaults.now ≤ 255 }
-    ensures { IsTrue result ↔ ((byte b : ℕ) → shape.now.own_bytes ≤ byte → slice_get defaults.now byte ≡ Some b
-        → HoldsBooleansAlone shape.now.own_bytes shape.now.booleans byte b) }
-{
-    for byte in shape.own_bytes..defaults.len() {
-        if !holds_booleans_alone(shape, byte, defaults[byte]) {
-            return false;
-        }
-    }
-    true
-}
-
-/// Whether these can be the default bytes of the entries. `shape` has the counts of these entries.
+/// Whether each default of an enum is its first value, and only bits of booleans are on in the bytes after those of the enums and numbers.
 pub(crate) fn are_good_defaults(shape: &Shape, entries: &[Descriptor], defaults: &[u8]) -> bool
     requires small { HasSmallCounts shape.now }
     requires shape { IsShapeOf entries.now shape.now }
@@ -91,18 +61,26 @@ pub(crate) fn are_good_defaults(shape: &Shape, entries: &[Descriptor], defaults:
     if defaults.len() != shape.bytes {
         return false;
     }
-    if !have_first_values(defaults, entries) {
+    if !entries.iter().all(|entry| has_first_value(defaults, entry)) {
         return false;
     }
-    are_boolean_bytes(shape, defaults)
+    for byte in shape.own_bytes..defaults.len() {
+        if !holds_booleans_alone(shape, byte, defaults[byte]) {
+            return false;
+        }
+    }
+    true
 }
 
 /// Whether only bits of booleans are on in the masks. Each preset in turn has one mask for each setting byte.
-fn are_boolean_masks(shape: &Shape, masks: &[u8]) -> bool
-    requires { shape.now.bytes ≤ 255 }
-    ensures { IsTrue result ↔ ((k byte m : ℕ) → byte < shape.now.bytes
-        → slice_get masks.now (k * shape.now.bytes + byte) ≡ Some m → HoldsBooleansAlone shape.now.own_bytes shape.now.booleans byte m) }
+pub(crate) fn are_good_masks(shape: &Shape, entries: &[Descriptor], masks: &[u8]) -> bool
+    requires small { HasSmallCounts shape.now }
+    requires shape { IsShapeOf entries.now shape.now }
+    ensures { IsTrue result ↔ AreGoodMasks entries.now masks.now }
 {
+    if masks.len() != shape.presets * shape.bytes {
+        return false;
+    }
     if shape.bytes == 0 {
         return true;
     }
@@ -112,16 +90,4 @@ fn are_boolean_masks(shape: &Shape, masks: &[u8]) -> bool
         }
     }
     true
-}
-
-/// Whether these can be the masks of the presets among the entries. `shape` has the counts of these entries.
-pub(crate) fn are_good_masks(shape: &Shape, entries: &[Descriptor], masks: &[u8]) -> bool
-    requires small { HasSmallCounts shape.now }
-    requires shape { IsShapeOf entries.now shape.now }
-    ensures { IsTrue result ↔ AreGoodMasks entries.now masks.now }
-{
-    if masks.len() != shape.presets * shape.bytes {
-        return false;
-    }
-    are_boolean_masks(shape, masks)
 }

@@ -20,29 +20,22 @@ pub(crate) struct Shape {
 fn own_bytes_in(entries: &[Descriptor]) -> usize
     ensures { result ≡ own_byte_count entries.now }
 {
-    let mut count = 0;
-    for entry in entries {
-        if entry.detail.has_own_byte() {
-            count += 1;
-        }
-    }
-    count
+    entries
+        .iter()
+        .filter(|entry| entry.detail.has_own_byte())
+        .count()
 }
 
 fn booleans_in(entries: &[Descriptor]) -> usize
     ensures { result ≡ described_boolean_count entries.now }
 {
-    let mut count = 0;
-    for entry in entries {
-        if entry.detail.is_boolean() {
-            count += 1;
-        }
-    }
-    count
+    entries
+        .iter()
+        .filter(|entry| entry.detail.is_boolean())
+        .count()
 }
 
 impl Shape {
-    /// The counts of these entries. An entry that isn't a setting is a preset.
     #[tactic(auto, using(crate::proofs::Inside::all_kinds))]
     pub(crate) fn of(entries: &[Descriptor]) -> Shape
         requires { length entries.now ≤ 65535 }

@@ -1,4 +1,4 @@
-ghost use Rattle.std.specs.Prelude.{◌≡◌, ◌≢◌, ◌↔◌, ◌+◌, ◌<◌, ◌^◌, ◌++◌, ◌∷◌, [], IsTrue, IfOk, IfErr, OnOk, OnErr, length, slice_get, Some};
+ghost use Rattle.std.specs.Prelude.{◌≡◌, ◌≢◌, ◌↔◌, ◌+◌, ◌<◌, ◌^◌, [], IsTrue, IfOk, IfErr, OnOk, OnErr, length, slice_get, Some};
 ghost use Rattle.meta_types.specs.declared.fault.DefinitionError.TheVariants.{OutOfMemory};
 ghost use Rattle.meta_settings.specs.declared.proto.ProtoSpecificSetting.TheVariants.{Bool, Enum, Num};
 ghost use Rattle.meta_settings.specs.GroupDeclaration.{boolean_count, byte_count, entry_count, entries_of};
@@ -20,9 +20,9 @@ use std::marker::Model;
 /// A group of settings that is being declared. It keeps what it was given, in order.
 #[derive(Debug, Drop)]
 pub struct SettingGroupBuilder {
-    name: Text,
-    settings: Vec<ProtoSetting>,
-    presets: Vec<ProtoPreset>,
+    pub(crate) name: Text,
+    pub(crate) settings: Vec<ProtoSetting>,
+    pub(crate) presets: Vec<ProtoPreset>,
     booleans: u32,
 }
 
@@ -77,7 +77,7 @@ impl SettingGroupBuilder {
         self.settings
             .push(ProtoSetting::new(name, description, comment, specific))?;
         self.booleans += 1;
-        Ok(BoolSettingIndex::new(number))
+        Ok(BoolSettingIndex { number })
     }
 
     /// Adds an enum with the names of its values. The first of these is the default. If memory runs out, the group stays as it was.
@@ -133,9 +133,12 @@ impl SettingGroupBuilder {
         ensures unchanged { OnErr result (self.new ≡ self.old) }
     {
         let number = self.presets.len() as u32;
-        self.presets
-            .push(ProtoPreset::new(name, description, args))?;
-        Ok(PresetIndex::new(number))
+        self.presets.push(ProtoPreset {
+            name,
+            description,
+            args,
+        })?;
+        Ok(PresetIndex { number })
     }
 
     /// Lays out the group. A group with a fault is refused, and no other: the error is its first fault, with `group` as the number of the
@@ -152,31 +155,12 @@ impl SettingGroupBuilder {
         Ok(laid_out_group(alloc, self)?)
     }
 
-    pub(crate) fn name(&self) -> &Text
-        ensures { result.now ≡ self.now.name }
-    {
-        &self.name
-    }
-
-    pub(crate) fn settings(&self) -> &[ProtoSetting]
-        ensures { result.now ≡ self.now.settings }
-    {
-        self.settings.as_slice()
-    }
-
-    pub(crate) fn presets(&self) -> &[ProtoPreset]
-        ensures { result.now ≡ self.now.presets }
-    {
-        self.presets.as_slice()
-    }
-
     pub(crate) fn boolean_count(&self) -> u32
         ensures { result ≡ boolean_count self.now }
     {
         self.booleans
     }
 
-    /// How many bytes the settings take.
     pub(crate) fn byte_count(&self) -> u64
         ensures { result ≡ byte_count self.now }
     {

@@ -1,17 +1,16 @@
-ghost use Rattle.std.specs.Prelude.{◌≡◌, ◌↔◌, ◌<◌, ◌+◌, ◌-◌, ℕ, IsTrue, MatchOption, IfOk, IfNone, IfSome, All, take};
-ghost use Rattle.std.specs.Prelude.{[]};
-ghost use Rattle.meta_settings.specs.GroupDeclaration.{boolean_count, byte_count, entry_count, names_of_entries};
-ghost use Rattle.meta_settings.specs.GroupFaults.{IsPlainByte, IsWellNamed, IsGoodEnum, IsMet, AreMet, EntryNameRule, OfEntry, OfCounts};
+ghost use Rattle.std.specs.Prelude.{◌≡◌, ◌↔◌, ◌<◌, ◌+◌, ◌-◌, IsTrue, MatchOption, IfOk, IfNone, IfSome, All, take, option_map};
+ghost use Rattle.meta_settings.specs.GroupDeclaration.{entry_count, names_of_entries};
+ghost use Rattle.meta_settings.specs.GroupFaults.{IsPlainByte, IsWellNamed, IsGoodEnum, AreMet, EntryNameRule, OfEntry, OfCounts};
 ghost use Rattle.meta_settings.specs.GroupFaults.{IsFirstGroupFault, IsValidGroup};
 ghost use Rattle.meta_settings.specs.Searched.{IsGroupCleanBefore};
 
 use super::builder::SettingGroupBuilder;
 use super::entry::Entry;
 use super::index::PresetType;
+use super::value_names::ValueNames;
 use meta_types::{DefinitionError, EarlierNames, Place, Text, are_distinct, are_names, is_name};
 use std::alloc::{AllocError, Global};
 
-/// The most booleans that a group may have.
 const MAX_BOOLEANS: u64 = 248;
 /// The most bytes that the settings of a group may take.
 const MAX_BYTES: u64 = 255;
@@ -20,85 +19,54 @@ const MAX_ENTRIES: u64 = 65_535;
 /// The most values that an enum may have.
 const MAX_VALUES: usize = 256;
 
-/// Whether a description may have this byte.
-fn is_plain_byte(c: u8) -> bool
-    ensures { IsTrue result ↔ IsPlainByte c }
-{
-    (0x20..=0x7e).contains(&c) && c != b'"' && c != b'\\'
-}
-
 /// Whether a setting may have this description, which then needs no escape: each byte is one of 0x20 to 0x7e, and none is a double quote or
 /// a backslash.
 pub fn is_plain_description(text: &Text) -> bool
     ensures { IsTrue result ↔ All IsPlainByte text.now }
 {
-    let bytes = text.as_bytes();
-    for byte in bytes {
-        if !is_plain_byte(*byte) {
-            return false;
-        }
-    }
-    true
+    text.as_bytes()
+        .iter()
+        .all(|c| (0x20..=0x7e).contains(c) && *c != b'"' && *c != b'\\')
 }
 
 /// Whether the names of an entry and of its values may be declared, and its description needs no escape.
 fn is_well_named(entry: &Entry<'_>) -> bool
     ensures { IsTrue result ↔ IsWellNamed entry.now }
 {
-    if !is_name(entry.name()) {
+    if !is_name(entry.name) {
         return false;
     }
-    if !is_plain_description(entry.description()) {
+    if !is_plain_description(entry.description) {
         return false;
     }
-    match entry.values() {
+    match entry.values {
         Some(values) => are_names(values.as_slice()),
         None => true,
     }
 }
 
-/// Whether an enum may have these values.
-fn is_good_enum(alloc: Global, values: &[Text]) -> Result<bool, AllocError>
-    ensures { IfOk result (λ b. IsTrue b ↔ IsGoodEnum values.now) }
+/// Whether the values of an enum are good. An entry of another kind has none, and passes.
+fn has_good_values(alloc: Global, values: Option<&ValueNames>) -> Result<bool, AllocError>
+    ensures { IfOk result (λ b. IsTrue b ↔ IfSome (option_map (λ v. v.now) values.entry) IsGoodEnum) }
 {
-    if values.is_empty() {
-        return Ok(false);
-    }
-    if values.len() > MAX_VALUES {
+    let Some(values) = values else {
+        return Ok(true);
+    };
+    let values = values.as_slice();
+    if values.is_empty() || values.len() > MAX_VALUES {
         return Ok(false);
     }
     are_distinct(alloc, values)
 }
 
-/// Whether the entry isn't an enum, or is one that may have its values.
-fn has_good_values(alloc: Global, entry: &Entry<'_>) -> Result<bool, AllocError>
-    ensures { IfOk result (λ b. IsTrue b ↔ IfSome entry.now.values IsGoodEnum) }
-{
-    match entry.values() {
-        Some(values) => is_good_enum(alloc, values.as_slice()),
-        None => Ok(true),
-    }
-}
-
-/// Whether what a preset names exists, if there are `booleans` booleans and `earlier` presets before it.
-fn is_met(booleans: u32, earlier: usize, arg: &PresetType) -> bool
-    ensures { IsTrue result ↔ IsMet booleans earlier arg.now }
-{
-    match arg {
-        PresetType::BoolSetting(index) => index.number() < booleans,
-        PresetType::OtherPreset(index) => (index.number() as usize) < earlier,
-    }
-}
-
+/// Whether all that a preset names exists, if there are `booleans` booleans and `earlier` presets before it.
 fn are_met(booleans: u32, earlier: usize, args: &[PresetType]) -> bool
     ensures { IsTrue result ↔ AreMet booleans earlier args.now }
 {
-    for arg in args {
-        if !is_met(booleans, earlier, arg) {
-            return false;
-        }
-    }
-    true
+    args.iter().all(|arg| match arg {
+        PresetType::BoolSetting(index) => index.number() < booleans,
+        PresetType::OtherPreset(index) => (index.number() as usize) < earlier,
+    })
 }
 
 /// The first fault of the group if it is in the entry at this place, and no fault comes before. `names` has the names of the earlier
@@ -122,21 +90,20 @@ fn entry_fault<'b>(
     if !is_well_named(&entry) {
         return Ok(Some(DefinitionError::BadName(Place::Entry(group, number))));
     }
-    if let Some(earlier) = names.add(alloc, entry.name())? {
+    if let Some(earlier) = names.add(alloc, entry.name)? {
         let fault = DefinitionError::DuplicateName(Place::Entry(group, number), earlier as u64);
         return Ok(Some(fault));
     }
-    if !has_good_values(alloc, &entry)? {
+    if !has_good_values(alloc, entry.values)? {
         return Ok(Some(DefinitionError::BadEnum(group, number)));
     }
-    let earlier = place.saturating_sub(builder.settings().len());
-    if !are_met(builder.boolean_count(), earlier, entry.args()) {
+    let earlier = place.saturating_sub(builder.settings.len());
+    if !are_met(builder.boolean_count(), earlier, entry.args) {
         return Ok(Some(DefinitionError::BadPreset(group, number)));
     }
     Ok(None)
 }
 
-/// The first fault of the group if it is in the entries, and no fault comes before.
 fn entries_fault(
     alloc: Global,
     builder: &SettingGroupBuilder,
@@ -161,7 +128,7 @@ pub(crate) fn group_fault(
 ) -> Result<Option<DefinitionError>, AllocError>
     ensures { IfOk result (λ o. MatchOption o (IsValidGroup builder.now) (IsFirstGroupFault builder.now group)) }
 {
-    if !is_name(builder.name()) {
+    if !is_name(&builder.name) {
         return Ok(Some(DefinitionError::BadName(Place::Group(group))));
     }
     if let Some(fault) = entries_fault(alloc, builder, group)? {

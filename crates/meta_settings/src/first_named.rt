@@ -83,7 +83,6 @@ impl FirstNamed {
         }
     }
 
-    /// Adds the number of a boolean, unless it was added before.
     pub(crate) fn add(&mut self, number: u8) -> Result<(), AllocError>
         ensures { (named : List ℕ) → self.old ≡ firsts named → OnOk result (self.new ≡ firsts (named ++ number ∷ [])) }
     {

@@ -1,4 +1,4 @@
-ghost use Rattle.std.specs.Prelude.{◌≡◌, ◌↔◌, ◌<◌, All, IsTrue};
+ghost use Rattle.std.specs.Prelude.{◌≡◌, ◌↔◌, ◌<◌, IsTrue};
 ghost use Rattle.meta_settings.specs.Layout.{booleans_in, IsSized};
 ghost use Rattle.meta_settings.specs.PresetLayout.{HasAll};
 
@@ -10,11 +10,11 @@ use std::marker::Model;
 /// A group of settings with its layout. Only `SettingGroupBuilder::build` makes one.
 #[derive(Debug, Drop)]
 pub struct SettingGroup {
-    name: Text,
-    settings: Vec<Setting>,
-    bool_start_byte_offset: u8,
-    settings_size: u8,
-    presets: Vec<Preset>,
+    pub(crate) name: Text,
+    pub(crate) settings: Vec<Setting>,
+    pub(crate) bool_start_byte_offset: u8,
+    pub(crate) settings_size: u8,
+    pub(crate) presets: Vec<Preset>,
 }
 
 impl Model for SettingGroup {
@@ -33,43 +33,7 @@ impl Model for SettingGroup {
     ghost invariant = { λ g. IsSized g.settings.items g.bool_start_byte_offset g.settings_size };
 }
 
-fn are_below(numbers: &[u8], bound: usize) -> bool
-    ensures { IsTrue result ↔ All (λ number. number < bound) numbers.now }
-{
-    for number in numbers {
-        if usize::from(*number) >= bound {
-            return false;
-        }
-    }
-    true
-}
-
 impl SettingGroup {
-    pub(crate) fn new(
-        name: Text,
-        settings: Vec<Setting>,
-        bool_start_byte_offset: u8,
-        settings_size: u8,
-        presets: Vec<Preset>,
-    ) -> SettingGroup
-        requires { IsSized settings.items bool_start_byte_offset settings_size }
-        ensures { result ≡ record {
-          name = name;
-          settings = settings.items;
-          bool_start_byte_offset = bool_start_byte_offset;
-          settings_size = settings_size;
-          presets = presets.items;
-        } }
-    {
-        SettingGroup {
-            name,
-            settings,
-            bool_start_byte_offset,
-            settings_size,
-            presets,
-        }
-    }
-
     /// The name of the group.
     pub fn name(&self) -> &Text
         ensures { result.now ≡ self.now.name }
@@ -118,10 +82,12 @@ impl SettingGroup {
         ensures { IsTrue result ↔ HasAll self.now preset.now }
     {
         let count = self.booleans().len();
-        are_below(preset.booleans(), count)
+        preset
+            .booleans()
+            .iter()
+            .all(|number| usize::from(*number) < count)
     }
 
-    /// The booleans, in order of their numbers.
     pub(crate) fn booleans(&self) -> &[Setting]
         ensures booleans { result.now ≡ booleans_in self.now }
         ensures sized { IsSized self.now.settings self.now.bool_start_byte_offset self.now.settings_size }

@@ -6,7 +6,7 @@ use std::marker::Model;
 /// The number of a boolean among the booleans of its group, from 0, below 2^32.
 #[derive(Clone, Copy, Debug, PartialEq, Eq, Hash)]
 pub struct BoolSettingIndex {
-    number: u32,
+    pub(crate) number: u32,
 }
 
 impl Model for BoolSettingIndex {
@@ -20,12 +20,6 @@ impl Model for BoolSettingIndex {
 }
 
 impl BoolSettingIndex {
-    pub(crate) fn new(number: u32) -> BoolSettingIndex
-        ensures { result ≡ number }
-    {
-        BoolSettingIndex { number }
-    }
-
     /// The number, from 0.
     pub fn number(self) -> u32
         ensures { result ≡ self }
@@ -37,7 +31,7 @@ impl BoolSettingIndex {
 /// The number of a preset among the presets of its group, from 0, below 2^32.
 #[derive(Clone, Copy, Debug, PartialEq, Eq, Hash)]
 pub struct PresetIndex {
-    number: u32,
+    pub(crate) number: u32,
 }
 
 impl Model for PresetIndex {
@@ -51,12 +45,6 @@ impl Model for PresetIndex {
 }
 
 impl PresetIndex {
-    pub(crate) fn new(number: u32) -> PresetIndex
-        ensures { result ≡ number }
-    {
-        PresetIndex { number }
-    }
-
     /// The number, from 0.
     pub fn number(self) -> u32
         ensures { result ≡ self }

@@ -1,4 +1,4 @@
-ghost use Rattle.std.specs.Prelude.{◌≡◌, ◌≤◌, ◌+◌, ◌/◌, ◌++◌, IfOk, length};
+ghost use Rattle.std.specs.Prelude.{◌≡◌, ◌≤◌, ◌+◌, ◌/◌, IfOk, length};
 ghost use Rattle.meta_settings.specs.GroupDeclaration.{booleans_among, others_among};
 ghost use Rattle.meta_settings.specs.TurnedOn.{built_presets};
 ghost use Rattle.meta_settings.specs.GroupFaults.{IsValidGroup};
@@ -44,15 +44,6 @@ fn in_bits(alloc: Global, settings: &[ProtoSetting], start: u8) -> Result<Vec<Se
     Ok(placed)
 }
 
-/// The first settings, then the second.
-fn joined(mut first: Vec<Setting>, mut second: Vec<Setting>) -> Result<Vec<Setting>, AllocError>
-    ensures { IfOk result (λ v. v.items ≡ first.items ++ second.items) }
-{
-    first.append(&mut second)?;
-    Ok(first)
-}
-
-/// The presets with the booleans that they turn on, in order.
 fn with_booleans(alloc: Global, declared: &[ProtoPreset]) -> Result<Vec<Preset>, AllocError>
     requires { AreAllMet 256 declared.now }
     ensures { IfOk result (λ v. v.items ≡ built_presets declared.now) }
@@ -65,7 +56,6 @@ fn with_booleans(alloc: Global, declared: &[ProtoPreset]) -> Result<Vec<Preset>,
     Ok(presets)
 }
 
-/// The group with its layout, if it has no fault.
 pub(crate) fn laid_out_group(
     alloc: Global,
     builder: &SettingGroupBuilder,
@@ -73,12 +63,17 @@ pub(crate) fn laid_out_group(
     requires { IsValidGroup builder.now }
     ensures { IfOk result (λ g. g ≡ built_of builder.now) }
 {
-    let settings = builder.settings();
-    let numbers = in_bytes(alloc, settings)?;
-    let start = numbers.len() as u8;
-    let booleans = in_bits(alloc, settings, start)?;
-    let placed = joined(numbers, booleans)?;
-    let presets = with_booleans(alloc, builder.presets())?;
+    let mut settings = in_bytes(alloc, &builder.settings)?;
+    let start = settings.len() as u8;
+    let mut booleans = in_bits(alloc, &builder.settings, start)?;
+    settings.append(&mut booleans)?;
+    let presets = with_booleans(alloc, &builder.presets)?;
     let size = builder.byte_count() as u8;
-    Ok(SettingGroup::new(builder.name().copy(alloc)?, placed, start, size, presets))
+    Ok(SettingGroup {
+        name: builder.name.copy(alloc)?,
+        settings,
+        bool_start_byte_offset: start,
+        settings_size: size,
+        presets,
+    })
 }

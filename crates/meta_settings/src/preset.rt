@@ -1,7 +1,7 @@
-ghost use Rattle.std.specs.Prelude.{◌≡◌, ◌<◌, ◌+◌, ◌/◌, ℕ, List, [], ◌++◌, IfOk, OnOk, All, length};
-ghost use Rattle.meta_settings.specs.PresetLayout.{HasAll, IsLayoutOf, IsLayoutOn, with_bit_at, names_turned_on};
-ghost use Rattle.meta_settings.specs.TurnedOn.{firsts, meant_by, turned_on, built_preset};
-ghost use Rattle.meta_settings.specs.GroupFaults.{IsMet, AreMet};
+ghost use Rattle.std.specs.Prelude.{◌≡◌, ◌<◌, ◌+◌, ◌/◌, ℕ, List, [], IfOk, All, length};
+ghost use Rattle.meta_settings.specs.PresetLayout.{HasAll, IsLayoutOf, IsLayoutOn, names_turned_on};
+ghost use Rattle.meta_settings.specs.TurnedOn.{turned_on, built_preset};
+ghost use Rattle.meta_settings.specs.GroupFaults.{AreMet};
 
 use super::first_named::{BooleanNumbers, FirstNamed};
 use super::group::SettingGroup;
@@ -30,19 +30,6 @@ impl Model for Preset {
     ghost inverse = { λ v. record { name = v.name; description = v.description; booleans = v.booleans } };
 }
 
-/// Adds the booleans that `arg` stands for: a boolean, or those that an earlier preset turns on.
-fn add_meant(named: &mut FirstNamed, arg: &PresetType, earlier: &[Preset]) -> Result<(), AllocError>
-    requires { IsMet 256 (length earlier.now) arg.now }
-    ensures { (numbers : List ℕ) → named.old ≡ firsts numbers → OnOk result (named.new ≡ firsts (numbers ++ meant_by earlier.now arg.now)) }
-{
-    match arg {
-        PresetType::BoolSetting(index) => named.add(index.number() as u8),
-        PresetType::OtherPreset(index) => {
-            named.add_all(earlier[index.number() as usize].booleans())
-        }
-    }
-}
-
 /// The numbers of the booleans that these names turn on. `earlier` has the presets that are declared before.
 fn turned_on(
     alloc: Global,
@@ -54,13 +41,17 @@ fn turned_on(
 {
     let mut named = FirstNamed::new(alloc);
     for arg in args {
-        add_meant(&mut named, arg, earlier)?;
+        match arg {
+            PresetType::BoolSetting(index) => named.add(index.number() as u8)?,
+            PresetType::OtherPreset(index) => {
+                named.add_all(earlier[index.number() as usize].booleans())?
+            }
+        }
     }
     Ok(named.numbers())
 }
 
 impl Preset {
-    /// Makes the preset of its declaration and of the presets before it.
     pub(crate) fn of(
         alloc: Global,
         declared: &ProtoPreset,
@@ -70,9 +61,9 @@ impl Preset {
         ensures { IfOk result (λ p. p ≡ built_preset earlier.now declared.now) }
     {
         Ok(Preset {
-            name: declared.name().copy(alloc)?,
-            description: declared.description().copy(alloc)?,
-            booleans: turned_on(alloc, declared.args(), earlier)?,
+            name: declared.name.copy(alloc)?,
+            description: declared.description.copy(alloc)?,
+            booleans: turned_on(alloc, &declared.args, earlier)?,
         })
     }
 
@@ -97,27 +88,18 @@ impl Preset {
     }
 }
 
-/// Turns on the bit `bit`, below 8, of the byte at the place `at`.
-fn turn_on(layout: &mut [(u8, u8)], at: usize, bit: u8)
-    requires at { at < length layout.old }
-    requires bit { bit < 8 }
-    ensures { layout.new ≡ with_bit_at layout.old at bit }
-{
-    let (mask, value) = layout[at];
-    layout[at] = (mask | 1 << bit, value | 1 << bit);
-}
-
 /// Turns on the bits of these booleans. Boolean 0 has bit 0 of the byte `start`.
 fn turn_on_all(layout: &mut [(u8, u8)], start: u8, numbers: &[u8])
     requires { All (λ b. start + b / 8 < length layout.old) numbers.now }
     ensures { (size : ℕ) → IsLayoutOn start size [] layout.old → IsLayoutOn start size numbers.now layout.new }
 {
     for number in numbers {
-        turn_on(layout, start as usize + *number as usize / 8, *number % 8);
+        let (at, bit) = (start as usize + *number as usize / 8, *number % 8);
+        let (mask, value) = layout[at];
+        layout[at] = (mask | 1 << bit, value | 1 << bit);
     }
 }
 
-/// A layout of `size` bytes in which no bit is turned on.
 fn empty_layout(alloc: Global, size: u8) -> Result<Vec<(u8, u8)>, AllocError>
     ensures { (start : ℕ) → IfOk result (λ v. IsLayoutOn start size [] v.items) }
 {

@@ -1,4 +1,4 @@
-ghost use Rattle.std.specs.Prelude.{◌≡◌, ◌↔◌};
+ghost use Rattle.std.specs.Prelude.{◌≡◌};
 ghost use Rattle.meta_settings.specs.GroupDeclaration.{is_bool, setting_entry, preset_entry};
 
 use super::entry::Entry;
@@ -19,10 +19,10 @@ pub enum ProtoSpecificSetting {
 /// A setting as it is declared.
 #[derive(Debug, Drop)]
 pub(crate) struct ProtoSetting {
-    name: Text,
-    description: Text,
-    comment: Text,
-    specific: ProtoSpecificSetting,
+    pub(crate) name: Text,
+    pub(crate) description: Text,
+    pub(crate) comment: Text,
+    pub(crate) specific: ProtoSpecificSetting,
 }
 
 impl Model for ProtoSetting {
@@ -50,30 +50,6 @@ impl ProtoSetting {
         }
     }
 
-    pub(crate) fn name(&self) -> &Text
-        ensures { result.now ≡ self.now.name }
-    {
-        &self.name
-    }
-
-    pub(crate) fn description(&self) -> &Text
-        ensures { result.now ≡ self.now.description }
-    {
-        &self.description
-    }
-
-    pub(crate) fn comment(&self) -> &Text
-        ensures { result.now ≡ self.now.comment }
-    {
-        &self.comment
-    }
-
-    pub(crate) fn specific(&self) -> &ProtoSpecificSetting
-        ensures { result.now ≡ self.now.specific }
-    {
-        &self.specific
-    }
-
     pub(crate) fn is_bool(&self) -> bool
         ensures { result ≡ is_bool self.now }
     {
@@ -84,7 +60,6 @@ impl ProtoSetting {
         }
     }
 
-    /// The setting as an entry of its group.
     pub(crate) fn entry(&self) -> Entry<'_>
         ensures { result ≡ setting_entry self.now }
     {
@@ -93,16 +68,21 @@ impl ProtoSetting {
             ProtoSpecificSetting::Enum(values) => Some(values),
             ProtoSpecificSetting::Num(_) => None,
         };
-        Entry::new(&self.name, &self.description, values, &[])
+        Entry {
+            name: &self.name,
+            description: &self.description,
+            values,
+            args: &[],
+        }
     }
 }
 
 /// A preset as it is declared.
 #[derive(Debug, Drop)]
 pub(crate) struct ProtoPreset {
-    name: Text,
-    description: Text,
-    args: Vec<PresetType>,
+    pub(crate) name: Text,
+    pub(crate) description: Text,
+    pub(crate) args: Vec<PresetType>,
 }
 
 impl Model for ProtoPreset {
@@ -114,38 +94,14 @@ impl Model for ProtoPreset {
 }
 
 impl ProtoPreset {
-    pub(crate) fn new(name: Text, description: Text, args: Vec<PresetType>) -> ProtoPreset
-        ensures { result ≡ record { name = name; description = description; args = args.items } }
-    {
-        ProtoPreset {
-            name,
-            description,
-            args,
-        }
-    }
-
-    pub(crate) fn name(&self) -> &Text
-        ensures { result.now ≡ self.now.name }
-    {
-        &self.name
-    }
-
-    pub(crate) fn description(&self) -> &Text
-        ensures { result.now ≡ self.now.description }
-    {
-        &self.description
-    }
-
-    pub(crate) fn args(&self) -> &[PresetType]
-        ensures { result.now ≡ self.now.args }
-    {
-        self.args.as_slice()
-    }
-
-    /// The preset as an entry of its group.
     pub(crate) fn entry(&self) -> Entry<'_>
         ensures { result ≡ preset_entry self.now }
     {
-        Entry::new(&self.name, &self.description, None, self.args.as_slice())
+        Entry {
+            name: &self.name,
+            description: &self.description,
+            values: None,
+            args: self.args.as_slice(),
+        }
     }
 }

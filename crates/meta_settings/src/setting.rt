@@ -1,6 +1,6 @@
 ghost use Rattle.std.specs.Prelude.{◌≡◌, IfOk};
 ghost use Rattle.meta_settings.specs.Layout.{default_byte_of};
-ghost use Rattle.meta_settings.specs.LaidOut.{placed_at, placed_specific};
+ghost use Rattle.meta_settings.specs.LaidOut.{placed_at};
 
 use super::proto::{ProtoSetting, ProtoSpecificSetting};
 use super::value_names::ValueNames;
@@ -61,27 +61,8 @@ impl Model for Setting {
     } };
 }
 
-/// A setting without its place. A boolean gets this number.
-fn placed(
-    alloc: Global,
-    specific: &ProtoSpecificSetting,
-    number: u8,
-) -> Result<SpecificSetting, AllocError>
-    ensures { IfOk result (λ s. s ≡ placed_specific number specific.now) }
-{
-    match specific {
-        ProtoSpecificSetting::Bool(default) => Ok(SpecificSetting::Bool(BoolSetting {
-            default: *default,
-            bit_offset: number % 8,
-            predicate_number: number,
-        })),
-        ProtoSpecificSetting::Enum(values) => Ok(SpecificSetting::Enum(values.copy(alloc)?)),
-        ProtoSpecificSetting::Num(default) => Ok(SpecificSetting::Num(*default)),
-    }
-}
-
 impl Setting {
-    /// The setting at this byte. A boolean gets this number.
+    /// The setting in this byte. A boolean gets this number.
     pub(crate) fn at(
         alloc: Global,
         declared: &ProtoSetting,
@@ -90,11 +71,20 @@ impl Setting {
     ) -> Result<Setting, AllocError>
         ensures { IfOk result (λ s. s ≡ placed_at declared.now byte_offset number) }
     {
+        let specific = match &declared.specific {
+            ProtoSpecificSetting::Bool(default) => SpecificSetting::Bool(BoolSetting {
+                default: *default,
+                bit_offset: number % 8,
+                predicate_number: number,
+            }),
+            ProtoSpecificSetting::Enum(values) => SpecificSetting::Enum(values.copy(alloc)?),
+            ProtoSpecificSetting::Num(default) => SpecificSetting::Num(*default),
+        };
         Ok(Setting {
-            name: declared.name().copy(alloc)?,
-            description: declared.description().copy(alloc)?,
-            comment: declared.comment().copy(alloc)?,
-            specific: placed(alloc, declared.specific(), number)?,
+            name: declared.name.copy(alloc)?,
+            description: declared.description.copy(alloc)?,
+            comment: declared.comment.copy(alloc)?,
+            specific,
             byte_offset,
         })
     }

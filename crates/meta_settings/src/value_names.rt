@@ -24,16 +24,6 @@ impl Model for ValueNames {
     ghost view = { λ v. v.names.items };
 }
 
-fn copied(alloc: Global, texts: &[Text]) -> Result<Vec<Text>, AllocError>
-    ensures { IfOk result (λ v. v.items ≡ texts.now) }
-{
-    let mut copies = Vec::new(alloc);
-    for text in texts {
-        copies.push(text.copy(alloc)?)?;
-    }
-    Ok(copies)
-}
-
 impl ValueNames {
     /// The names, in order.
     pub fn as_slice(&self) -> &[Text]
@@ -46,7 +36,11 @@ impl ValueNames {
     pub fn copy(&self, alloc: Global) -> Result<ValueNames, AllocError>
         ensures { IfOk result (λ v. v ≡ self.now) }
     {
-        let names = copied(alloc, self.names.as_slice())?;
+        let texts = self.as_slice();
+        let mut names = Vec::new(alloc);
+        for text in texts {
+            names.push(text.copy(alloc)?)?;
+        }
         Ok(ValueNames { names })
     }
 }

@@ -2,7 +2,7 @@
 --     IsKindOfRow row kind       the kind is what the row says
 --     key_of_kind, key_of_row    what the operands are, but for the values of an enum, the field name and the Rust type
 --     kinds_of_entities e, kinds_of_immediates i      the kinds in the order of their tables
-use Rattle.std.specs.Prelude.{◌≡◌, ℕ, List, [], ◌∷◌, ◌++◌, Some, codes, map}
+use Rattle.std.specs.Prelude.{◌≡◌, ℕ, List, [], ◌∷◌, ◌++◌, Some, codes}
 use Rattle.meta_operands.specs.Kind.{doc_of_kind}
 use Rattle.meta_operands.specs.declared.kind.OperandKind.{OperandKind}
 use Rattle.meta_operands.specs.declared.kind.OperandKindFields.{OperandKindFields}
@@ -83,12 +83,6 @@ immediate_keys =
     key (ImmEnum []) (codes "code") (codes "ir::TrapCode") ∷
     key (ImmEnum []) (codes "op") (codes "ir::AtomicRmwOp") ∷
     []
-
-pub record AreEntityRows (rows : List KindRow) : Type 0 where
-  pub keys_are : map key_of_row rows ≡ entity_keys
-
-pub record AreImmediateRows (rows : List KindRow) : Type 0 where
-  pub keys_are : map key_of_row rows ≡ immediate_keys
 
 -- the kinds in the order of the tables
 abbrev pub kinds_of_entities : EntityRefs → List OperandKind

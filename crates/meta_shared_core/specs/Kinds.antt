@@ -2,10 +2,10 @@
 --     kind_of imm entities k      the kind of this name
 --     AreEntities e, AreImmediates i      the kinds are those of the shared instruction set
 --     EntitiesHoldNoVariable e, ImmediatesHoldNoVariable i      none of the kinds is of values
-use Rattle.std.specs.Prelude.{◌≡◌, ℕ, List, [], ◌∷◌, None, Some, codes}
+use Rattle.std.specs.Prelude.{◌≡◌, ℕ, List, [], ◌∷◌, None, codes}
 use Rattle.std.specs.Borrow.{Bor}
 use Rattle.meta_operands.specs.EnumEntries.{EnumEntries, with_value}
-use Rattle.meta_operands.specs.Kind.{variable_in, doc_of_kind}
+use Rattle.meta_operands.specs.Kind.{variable_in}
 use Rattle.meta_operands.specs.declared.kind.OperandKind.{OperandKind}
 use Rattle.meta_operands.specs.declared.kind.OperandKindFields.{OperandKindFields}
 use Rattle.meta_operands.specs.declared.kind.OperandKindFields.TheVariants.{EntityRef, VariableArgs, ImmValue, ImmEnum}
@@ -24,13 +24,6 @@ with_values (pair ∷ pairs) es = with_values pairs (with_value es pair.0.now pa
 
 abbrev pub pairs_as_values : List (Bor (List ℕ) × Bor (List ℕ)) → EnumEntries
 pairs_as_values pairs = with_values pairs []
-
--- a kind with this field name, Rust type and documentation
-pub record IsKind (field_name rust_type : List ℕ) (fields : OperandKindFields) (doc : List ℕ) (kind : OperandKind) : Type 0 where
-  pub field_name_is : kind.rust_field_name ≡ field_name
-  pub rust_type_is : kind.rust_type ≡ rust_type
-  pub fields_are : kind.fields ≡ fields
-  pub doc_is : doc_of_kind kind ≡ Some doc
 
 -- a kind with this field name and Rust type, whose operands are these
 pub record IsKindOf (fields : OperandKindFields) (field_name rust_type : List ℕ) (kind : OperandKind) : Type 0 where

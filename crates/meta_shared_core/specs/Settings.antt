@@ -46,12 +46,6 @@ setting_names =
 abbrev pub texts_of : List (Bor (List ℕ)) → List (List ℕ)
 texts_of texts = map (λ text. text.now) texts
 
--- the values of an enum, and none of another setting
-abbrev pub choice_values : Choice → List (List ℕ)
-choice_values (Bool default) = []
-choice_values (Enum values) = texts_of values.now
-choice_values (Num default) = []
-
 -- what a setting is
 abbrev pub specific_of : Choice → ProtoSpecificSetting
 specific_of (Bool default) = ABool default

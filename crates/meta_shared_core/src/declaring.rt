@@ -1,8 +1,5 @@
-ghost use Rattle.std.specs.Prelude.{◌≡◌, ◌+◌, ◌<◌, ◌-◌, ◌^◌, ◌++◌, ◌∷◌, [], IfOk, OnOk, None, length, option_map, true};
+ghost use Rattle.std.specs.Prelude.{◌≡◌, ◌+◌, ◌<◌, ◌-◌, ◌^◌, ◌++◌, ◌∷◌, [], IfOk, OnOk, length, true};
 ghost use Rattle.std.specs.List.{list_all};
-ghost use Rattle.meta_inst.specs.Marks.{no_marks};
-ghost use Rattle.meta_operands.specs.Operand.{own_doc};
-ghost use Rattle.meta_shared_core.specs.Formats.{id_of};
 ghost use Rattle.meta_shared_core.specs.Words.{AreMeant, Grows, is_derivable, derived_count};
 ghost use Rattle.meta_shared_core.specs.Rows.{IsOperandOf, AreOperandsOfRows, IsBuilderOf, AddsRows, with_mark, marks_added, derived_among};
 ghost use Rattle.meta_shared_core.specs.Rows.{derived_in_row, derived_in, rows_in, are_derivable, is_derivable_row};
@@ -14,29 +11,6 @@ use meta_operands::Operand;
 use meta_types::Text;
 use meta_typevar::TypeVars;
 use std::alloc::{AllocError, Global};
-
-/// A copy of the documentation, if there is one.
-fn own_doc(alloc: Global, doc: Option<&str>) -> Result<Option<Text>, AllocError>
-    ensures { IfOk result (λ d. d ≡ option_map (λ text. text.now) doc.entry) }
-{
-    match doc {
-        Some(doc) => Ok(Some(Text::new(alloc, doc)?)),
-        None => Ok(None),
-    }
-}
-
-/// The operand with its documentation, if it has one of its own.
-fn documented(operand: Operand, doc: Option<Text>) -> Operand
-    requires { own_doc operand ≡ None }
-    ensures name { result.name ≡ operand.name }
-    ensures kind { result.kind ≡ operand.kind }
-    ensures doc { own_doc result ≡ doc }
-{
-    match doc {
-        Some(doc) => operand.with_doc(doc),
-        None => operand,
-    }
-}
 
 fn operand(
     alloc: Global,
@@ -50,10 +24,14 @@ fn operand(
     ensures operand { IfOk result (IsOperandOf vars.new names.now row.now) }
     ensures grows { OnOk result (Grows (derived_count row.now.word) vars.old vars.new) }
 {
-    let doc = own_doc(alloc, row.doc)?;
     let name = Text::new(alloc, row.name)?;
     let kind = names.kind(alloc, vars, row.word)?;
-    Ok(documented(Operand::new(name, kind), doc))
+    let operand = Operand::new(name, kind);
+    let Some(doc) = row.doc else {
+        return Ok(operand);
+    };
+    let doc = Text::new(alloc, doc)?;
+    Ok(operand.with_doc(doc))
 }
 
 fn operands(
@@ -101,27 +79,6 @@ fn with_marks(mut builder: InstructionBuilder, marks: &[Mark]) -> InstructionBui
     builder
 }
 
-/// The instruction of a row, without its operands and marks. It has no second control.
-fn without_operands(
-    alloc: Global,
-    names: &Names<'_>,
-    row: &Row,
-) -> Result<InstructionBuilder, AllocError>
-    ensures { IfOk result (λ b. b ≡ record {
-      name = row.now.name.now;
-      doc = row.now.doc.now;
-      format = id_of names.now.formats row.now.format;
-      operands_in = None;
-      operands_out = None;
-      marks = no_marks;
-      second = None;
-    }) }
-{
-    let name = Text::new(alloc, row.name)?;
-    let doc = Text::new(alloc, row.doc)?;
-    Ok(InstructionBuilder::new(alloc, name, doc, names.format(row.format)))
-}
-
 fn instruction(
     alloc: Global,
     names: &Names<'_>,
@@ -136,7 +93,9 @@ fn instruction(
 {
     let inputs = operands(alloc, names, vars, row.inputs)?;
     let outputs = operands(alloc, names, vars, row.outputs)?;
-    let builder = without_operands(alloc, names, row)?;
+    let name = Text::new(alloc, row.name)?;
+    let doc = Text::new(alloc, row.doc)?;
+    let builder = InstructionBuilder::new(alloc, name, doc, names.formats.id(row.format));
     let builder = builder.operands_in(inputs).operands_out(outputs);
     Ok(with_marks(builder, row.marks))
 }

@@ -1,6 +1,6 @@
 ghost use Rattle.std.specs.Prelude.{◌≡◌, IfOk, length};
 ghost use Rattle.meta_shared_core.specs.Kinds.{AreEntities, EntitiesHoldNoVariable};
-ghost use Rattle.meta_shared_core.specs.KindRows.{BeginWith, AreEntityRows, kinds_of_entities};
+ghost use Rattle.meta_shared_core.specs.KindRows.{BeginWith, kinds_of_entities};
 
 use super::kind_rows::{Class, KindRow, kind_rows, make_kinds, next};
 use meta_operands::OperandKind;
@@ -57,12 +57,6 @@ static ENTITIES: [KindRow; 14] = kind_rows! {
     uimm128: Entity("imm", "ir::Immediate", "A 128-bit immediate unsigned integer.");
 };
 
-fn rows() -> &'static [KindRow]
-    ensures { AreEntityRows result.now }
-{
-    &ENTITIES
-}
-
 /// The kinds as fields. They are in the order of the fields.
 fn named(kinds: Vec<OperandKind>) -> EntityRefs
     requires { length kinds.items ≡ 14 }
@@ -93,6 +87,6 @@ impl EntityRefs {
         ensures kinds { IfOk result AreEntities }
         ensures no_variable { IfOk result EntitiesHoldNoVariable }
     {
-        Ok(named(make_kinds(alloc, rows())?))
+        Ok(named(make_kinds(alloc, &ENTITIES)?))
     }
 }

@@ -12,10 +12,8 @@ use meta_operands::{FormatId, FormatTable, InstructionFormatBuilder};
 use meta_types::Text;
 use std::alloc::{AllocError, Global};
 
-/// A part of a format.
 #[derive(Clone, Copy)]
 pub(crate) enum FormatPart {
-    /// A value.
     Value,
     /// Any number of values (varargs).
     Varargs,
@@ -44,7 +42,6 @@ macro_rules! part {
     ($kind:ident) => { FormatPart::Immediate(Kind::$kind) };
 }
 
-/// The place of the designated value.
 macro_rules! place {
     () => { None };
     ($place:literal) => { Some($place) };
@@ -96,12 +93,6 @@ static FORMATS: [FormatRow; 36] = formats! {
     IntAddTrap(value value Trapcode);
     ExceptionHandlerAddress(raw_block Imm64);
 };
-
-fn rows() -> &'static [FormatRow]
-    ensures { AreFormatRows result.now }
-{
-    &FORMATS
-}
 
 /// The numbers of the formats of the shared instruction set, as in the crate's `shared/formats.rs`.
 #[derive(Drop)]
@@ -213,7 +204,6 @@ fn with_parts(
     Ok(builder)
 }
 
-/// The format with this designated value, if one is given.
 fn designating(
     builder: InstructionFormatBuilder,
     designated: Option<usize>,
@@ -249,20 +239,50 @@ fn add_format(
 fn add_formats(
     alloc: Global,
     table: &mut FormatTable,
+    rows: &[FormatRow],
     imm: &Immediates,
     entities: &EntityRefs,
 ) -> Result<Vec<FormatId>, AllocError>
-    requires { length table.old + 37 ≤ 2 ^ 32 }
+    requires room { length table.old + 37 ≤ 2 ^ 32 }
+    requires rows { AreFormatRows rows.now }
     ensures added { OnOk result (AddsAll imm.now entities.now table.old table.new) }
     ensures front { OnErr result (AddsFront imm.now entities.now table.old table.new) }
     ensures numbers { IfOk result (λ ids. AreNumbered (length table.old) 36 ids.items) }
 {
     let mut ids = Vec::new(alloc);
-    let rows = rows();
-    for k in 0..rows.len() {
-        ids.push(add_format(alloc, table, &rows[k], imm, entities)?)?;
+    for row in rows {
+        ids.push(add_format(alloc, table, row, imm, entities)?)?;
     }
     Ok(ids)
+}
+
+/// Gives a macro each format with its field in `Formats`, after the arguments.
+macro_rules! each_format {
+    ($with:ident $($arguments:tt)*) => {
+        $with! { ($($arguments)*)
+            Unary unary, UnaryImm unary_imm, UnaryIeee16 unary_ieee16, UnaryIeee32 unary_ieee32,
+            UnaryIeee64 unary_ieee64, UnaryConst unary_const, UnaryGlobalValue unary_global_value, Binary binary,
+            BinaryImm8 binary_imm8, Ternary ternary, TernaryImm8 ternary_imm8, MultiAry multiary, NullAry nullary,
+            Shuffle shuffle, IntCompare int_compare, FloatCompare float_compare, Jump jump, Brif brif,
+            BranchTable branch_table, Call call, CallIndirect call_indirect, TryCall try_call,
+            TryCallIndirect try_call_indirect, FuncAddr func_addr, AtomicRmw atomic_rmw, AtomicCas atomic_cas,
+            Load load, LoadNoOffset load_no_offset, Store store, StoreNoOffset store_no_offset, StackAddr stack_addr,
+            DynamicStackAddr dynamic_stack_addr, Trap trap, CondTrap cond_trap, IntAddTrap int_add_trap,
+            ExceptionHandlerAddress exception_handler_address
+        }
+    };
+}
+
+macro_rules! formats_at {
+    (($ids:ident) $($format:ident $field:ident),*) => {
+        Formats { $($field: id_at($ids, Format::$format)),* }
+    };
+}
+
+macro_rules! id_in {
+    (($formats:ident, $wanted:ident) $($format:ident $field:ident),*) => {
+        match $wanted { $(Format::$format => $formats.$field),* }
+    };
 }
 
 fn id_at(ids: &[FormatId], format: Format) -> FormatId
@@ -277,44 +297,7 @@ fn named(ids: &[FormatId]) -> Formats
     requires { length ids.now ≡ 36 }
     ensures { (format : Format) → slice_get ids.now (format_place format) ≡ Some (id_of result format) }
 {
-    Formats {
-        unary: id_at(ids, Format::Unary),
-        unary_imm: id_at(ids, Format::UnaryImm),
-        unary_ieee16: id_at(ids, Format::UnaryIeee16),
-        unary_ieee32: id_at(ids, Format::UnaryIeee32),
-        unary_ieee64: id_at(ids, Format::UnaryIeee64),
-        unary_const: id_at(ids, Format::UnaryConst),
-        unary_global_value: id_at(ids, Format::UnaryGlobalValue),
-        binary: id_at(ids, Format::Binary),
-        binary_imm8: id_at(ids, Format::BinaryImm8),
-        ternary: id_at(ids, Format::Ternary),
-        ternary_imm8: id_at(ids, Format::TernaryImm8),
-        multiary: id_at(ids, Format::MultiAry),
-        nullary: id_at(ids, Format::NullAry),
-        shuffle: id_at(ids, Format::Shuffle),
-        int_compare: id_at(ids, Format::IntCompare),
-        float_compare: id_at(ids, Format::FloatCompare),
-        jump: id_at(ids, Format::Jump),
-        brif: id_at(ids, Format::Brif),
-        branch_table: id_at(ids, Format::BranchTable),
-        call: id_at(ids, Format::Call),
-        call_indirect: id_at(ids, Format::CallIndirect),
-        try_call: id_at(ids, Format::TryCall),
-        try_call_indirect: id_at(ids, Format::TryCallIndirect),
-        func_addr: id_at(ids, Format::FuncAddr),
-        atomic_rmw: id_at(ids, Format::AtomicRmw),
-        atomic_cas: id_at(ids, Format::AtomicCas),
-        load: id_at(ids, Format::Load),
-        load_no_offset: id_at(ids, Format::LoadNoOffset),
-        store: id_at(ids, Format::Store),
-        store_no_offset: id_at(ids, Format::StoreNoOffset),
-        stack_addr: id_at(ids, Format::StackAddr),
-        dynamic_stack_addr: id_at(ids, Format::DynamicStackAddr),
-        trap: id_at(ids, Format::Trap),
-        cond_trap: id_at(ids, Format::CondTrap),
-        int_add_trap: id_at(ids, Format::IntAddTrap),
-        exception_handler_address: id_at(ids, Format::ExceptionHandlerAddress),
-    }
+    each_format!(formats_at ids)
 }
 
 impl Formats {
@@ -332,7 +315,7 @@ impl Formats {
         ensures numbers { IfOk result (AreNumberedFrom (length table.old)) }
         ensures of { IfOk result (AreFormatsOf (length table.new)) }
     {
-        let ids = add_formats(alloc, table, imm, entities)?;
+        let ids = add_formats(alloc, table, &FORMATS, imm, entities)?;
         Ok(named(&ids))
     }
 
@@ -340,43 +323,6 @@ impl Formats {
     pub fn id(&self, format: Format) -> FormatId
         ensures { result ≡ id_of self.now format }
     {
-        match format {
-            Format::Unary => self.unary,
-            Format::UnaryImm => self.unary_imm,
-            Format::UnaryIeee16 => self.unary_ieee16,
-            Format::UnaryIeee32 => self.unary_ieee32,
-            Format::UnaryIeee64 => self.unary_ieee64,
-            Format::UnaryConst => self.unary_const,
-            Format::UnaryGlobalValue => self.unary_global_value,
-            Format::Binary => self.binary,
-            Format::BinaryImm8 => self.binary_imm8,
-            Format::Ternary => self.ternary,
-            Format::TernaryImm8 => self.ternary_imm8,
-            Format::MultiAry => self.multiary,
-            Format::NullAry => self.nullary,
-            Format::Shuffle => self.shuffle,
-            Format::IntCompare => self.int_compare,
-            Format::FloatCompare => self.float_compare,
-            Format::Jump => self.jump,
-            Format::Brif => self.brif,
-            Format::BranchTable => self.branch_table,
-            Format::Call => self.call,
-            Format::CallIndirect => self.call_indirect,
-            Format::TryCall => self.try_call,
-            Format::TryCallIndirect => self.try_call_indirect,
-            Format::FuncAddr => self.func_addr,
-            Format::AtomicRmw => self.atomic_rmw,
-            Format::AtomicCas => self.atomic_cas,
-            Format::Load => self.load,
-            Format::LoadNoOffset => self.load_no_offset,
-            Format::Store => self.store,
-            Format::StoreNoOffset => self.store_no_offset,
-            Format::StackAddr => self.stack_addr,
-            Format::DynamicStackAddr => self.dynamic_stack_addr,
-            Format::Trap => self.trap,
-            Format::CondTrap => self.cond_trap,
-            Format::IntAddTrap => self.int_add_trap,
-            Format::ExceptionHandlerAddress => self.exception_handler_address,
-        }
+        each_format!(id_in self, format)
     }
 }

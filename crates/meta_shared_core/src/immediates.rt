@@ -1,6 +1,6 @@
 ghost use Rattle.std.specs.Prelude.{◌≡◌, IfOk, length};
 ghost use Rattle.meta_shared_core.specs.Kinds.{AreImmediates, ImmediatesHoldNoVariable};
-ghost use Rattle.meta_shared_core.specs.KindRows.{BeginWith, AreImmediateRows, kinds_of_immediates};
+ghost use Rattle.meta_shared_core.specs.KindRows.{BeginWith, kinds_of_immediates};
 
 use super::kind_rows::{Class, KindRow, kind_rows, make_kinds, next};
 use meta_operands::OperandKind;
@@ -65,7 +65,6 @@ const FLOATCC: [(&str, &str); 14] = [
     ("uge", "UnorderedOrGreaterThanOrEqual"),
 ];
 
-/// The reasons to trap.
 const TRAPCODE: [(&str, &str); 5] = [
     ("stk_ovf", "STACK_OVERFLOW"),
     ("heap_oob", "HEAP_OUT_OF_BOUNDS"),
@@ -74,7 +73,6 @@ const TRAPCODE: [(&str, &str); 5] = [
     ("bad_toint", "BAD_CONVERSION_TO_INTEGER"),
 ];
 
-/// The operations on memory.
 const ATOMIC_RMW_OP: [(&str, &str); 11] = [
     ("add", "Add"),
     ("sub", "Sub"),
@@ -104,12 +102,6 @@ static IMMEDIATES: [KindRow; 11] = kind_rows! {
     atomic_rmw_op: Choice("op", "ir::AtomicRmwOp", "Atomic Read-Modify-Write Ops", &ATOMIC_RMW_OP);
 };
 
-fn rows() -> &'static [KindRow]
-    ensures { AreImmediateRows result.now }
-{
-    &IMMEDIATES
-}
-
 /// The kinds as fields. They are in the order of the fields.
 fn named(kinds: Vec<OperandKind>) -> Immediates
     requires { length kinds.items ≡ 11 }
@@ -137,6 +129,6 @@ impl Immediates {
         ensures kinds { IfOk result AreImmediates }
         ensures no_variable { IfOk result ImmediatesHoldNoVariable }
     {
-        Ok(named(make_kinds(alloc, rows())?))
+        Ok(named(make_kinds(alloc, &IMMEDIATES)?))
     }
 }

@@ -1,11 +1,9 @@
-ghost use Rattle.std.specs.Prelude.{◌≡◌, IfOk};
-ghost use Rattle.meta_shared_core.specs.Kinds.{kind_of, IsKind};
+ghost use Rattle.std.specs.Prelude.{◌≡◌};
+ghost use Rattle.meta_shared_core.specs.Kinds.{kind_of};
 
 use super::entities::EntityRefs;
 use super::immediates::Immediates;
-use meta_operands::{OperandKind, OperandKindFields};
-use meta_types::Text;
-use std::alloc::{AllocError, Global};
+use meta_operands::OperandKind;
 
 /// A kind of operands that aren't values, as the tables name it.
 #[derive(Clone, Copy)]
@@ -70,20 +68,4 @@ impl Kind {
             Kind::AtomicRmwOp => &imm.atomic_rmw_op,
         }
     }
-}
-
-/// A kind with this field name, Rust type and documentation.
-pub(crate) fn make_kind(
-    alloc: Global,
-    field_name: &str,
-    rust_type: &str,
-    fields: OperandKindFields,
-    doc: &str,
-) -> Result<OperandKind, AllocError>
-    ensures { IfOk result (IsKind field_name.now rust_type.now fields doc.now) }
-{
-    let field_name = Text::new(alloc, field_name)?;
-    let rust_type = Text::new(alloc, rust_type)?;
-    let doc = Text::new(alloc, doc)?;
-    Ok(OperandKind::new(field_name, rust_type, fields, doc))
 }

@@ -5,7 +5,6 @@ ghost use Rattle.meta_operands.specs.EnumEntries.{with_value};
 ghost use Rattle.meta_shared_core.specs.Kinds.{pairs_as_values};
 ghost use Rattle.meta_shared_core.specs.KindRows.{fields_of, key_of_kind, key_of_row, IsKindOfRow};
 
-use super::kind::make_kind;
 use meta_operands::{EnumValues, OperandKind, OperandKindFields};
 use meta_types::Text;
 use std::alloc::{AllocError, Global};
@@ -24,7 +23,6 @@ pub(crate) enum Class {
     Choice(&'static [(&'static str, &'static str)]),
 }
 
-/// A row of a table of kinds.
 #[derive(Clone, Copy)]
 pub(crate) struct KindRow {
     pub(crate) class: Class,
@@ -43,7 +41,6 @@ macro_rules! kind_rows {
 
 pub(crate) use kind_rows;
 
-/// Adds a value with the variant that it stands for.
 fn insert(
     alloc: Global,
     values: &mut EnumValues,
@@ -58,7 +55,6 @@ fn insert(
     Ok(())
 }
 
-/// The values of an enum, each with the variant that it stands for.
 fn values(alloc: Global, pairs: &[(&str, &str)]) -> Result<EnumValues, AllocError>
     ensures { IfOk result (λ v. v ≡ pairs_as_values pairs.now) }
 {
@@ -69,7 +65,6 @@ fn values(alloc: Global, pairs: &[(&str, &str)]) -> Result<EnumValues, AllocErro
     Ok(values)
 }
 
-/// What the operands of a row's kind are.
 fn fields(alloc: Global, class: Class) -> Result<OperandKindFields, AllocError>
     ensures { IfOk result (λ fields. fields ≡ fields_of class) }
 {
@@ -84,8 +79,11 @@ fn fields(alloc: Global, class: Class) -> Result<OperandKindFields, AllocError>
 fn make(alloc: Global, row: &KindRow) -> Result<OperandKind, AllocError>
     ensures { IfOk result (IsKindOfRow row.now) }
 {
+    let field_name = Text::new(alloc, row.field_name)?;
+    let rust_type = Text::new(alloc, row.rust_type)?;
+    let doc = Text::new(alloc, row.doc)?;
     let fields = fields(alloc, row.class)?;
-    make_kind(alloc, row.field_name, row.rust_type, fields, row.doc)
+    Ok(OperandKind::new(field_name, rust_type, fields, doc))
 }
 
 pub(crate) fn make_kinds(alloc: Global, rows: &[KindRow]) -> Result<Vec<OperandKind>, AllocError>
@@ -98,7 +96,6 @@ pub(crate) fn make_kinds(alloc: Global, rows: &[KindRow]) -> Result<Vec<OperandK
     Ok(kinds)
 }
 
-/// The first of the kinds that are left.
 pub(crate) fn next(kinds: &mut IntoIter<OperandKind>) -> OperandKind
     requires { 0 < into_iter_len kinds.old }
     ensures items { into_iter_items kinds.old ≡ result ∷ into_iter_items kinds.new }

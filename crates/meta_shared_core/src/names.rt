@@ -1,14 +1,12 @@
-ghost use Rattle.std.specs.Prelude.{◌≡◌, ◌+◌, ◌<◌, ◌-◌, ◌^◌, IfOk, OnOk, length, true};
-ghost use Rattle.meta_shared_core.specs.Formats.{id_of};
+ghost use Rattle.std.specs.Prelude.{◌≡◌, ◌<◌, ◌-◌, ◌^◌, IfOk, OnOk, length, true};
 ghost use Rattle.meta_shared_core.specs.Words.{AreMeant, IsKindOfWord, Grows, is_derivable, derived_count};
 
 use super::entities::EntityRefs;
-use super::format::Format;
 use super::formats::Formats;
 use super::immediates::Immediates;
 use super::roots::Roots;
 use super::word::Word;
-use meta_operands::{FormatId, OperandKind};
+use meta_operands::OperandKind;
 use meta_typevar::TypeVars;
 use std::alloc::{AllocError, Global};
 use std::marker::Model;
@@ -16,7 +14,7 @@ use std::marker::Model;
 /// The meanings of the words of the tables.
 #[derive(Drop)]
 pub struct Names<'n> {
-    formats: &'n Formats,
+    pub(crate) formats: &'n Formats,
     imm: &'n Immediates,
     entities: &'n EntityRefs,
     roots: &'n Roots,
@@ -46,12 +44,6 @@ impl<'n> Names<'n> {
             entities,
             roots,
         }
-    }
-
-    pub(crate) fn format(&self, format: Format) -> FormatId
-        ensures { result ≡ id_of self.now.formats format }
-    {
-        self.formats.id(format)
     }
 
     /// The kind that a word stands for. A derived variable is added if the registry doesn't have it.

@@ -8,9 +8,7 @@ use std::alloc::{AllocError, Global};
 /// Which numbers of a part of a type set a row gives: none, all, or the powers of two from one to another.
 #[derive(Clone, Copy)]
 pub(crate) enum Span {
-    /// No number.
     Nothing,
-    /// Each number that the part can have.
     Everything,
     /// The powers of two from the first to the second.
     Between(u16, u16),
@@ -27,10 +25,8 @@ pub(crate) struct SetRow {
     floats: Span,
 }
 
-/// A row of the table of root variables.
 #[derive(Clone, Copy)]
 pub(crate) enum RootRow {
-    /// A variable with a type set of its own.
     Set(SetRow),
     /// A type. The variable has its name, its documentation and its set.
     Single(LaneType),
@@ -65,7 +61,7 @@ macro_rules! root_rows {
 }
 
 /// The root variables, with lane counts, dynamic lane counts, integer widths and float widths.
-static ROOTS: [RootRow; 49] = root_rows! {
+pub(crate) static ROOTS: [RootRow; 49] = root_rows! {
     ST1: ScalarTruthy(1, none, all, none) "A scalar truthy type";
     ST2: ScalarTruthy(1, none, all, none) "A scalar truthy type";
     I32: i32(1, none, 32, none) "A 32 bit scalar integer type";
@@ -118,14 +114,7 @@ static ROOTS: [RootRow; 49] = root_rows! {
     V3: TxN(1, [2..256], all, all) "A dynamic vector type";
 };
 
-fn rows() -> &'static [RootRow]
-    ensures { AreRootRows result.now }
-{
-    &ROOTS
-}
-
 impl Span {
-    /// The interval that the span stands for.
     fn interval(self) -> Interval
         ensures { result ≡ interval_meant self }
     {
@@ -165,15 +154,18 @@ fn add_root(alloc: Global, vars: &mut TypeVars, row: RootRow) -> Result<TypeVar,
     }
 }
 
-/// Adds the root variables of the table, and answers them.
-pub(crate) fn add_roots(alloc: Global, vars: &mut TypeVars) -> Result<Vec<TypeVar>, AllocError>
-    requires { vars.old ≡ [] }
+pub(crate) fn add_roots(
+    alloc: Global,
+    vars: &mut TypeVars,
+    rows: &[RootRow],
+) -> Result<Vec<TypeVar>, AllocError>
+    requires empty { vars.old ≡ [] }
+    requires rows { AreRootRows rows.now }
     ensures { IfOk result (λ found. AreFirstRoots vars.new found.items) }
 {
     let mut found = Vec::new(alloc);
-    let rows = rows();
-    for k in 0..rows.len() {
-        found.push(add_root(alloc, vars, rows[k])?)?;
+    for row in rows {
+        found.push(add_root(alloc, vars, *row)?)?;
     }
     Ok(found)
 }

@@ -2,7 +2,7 @@ ghost use Rattle.std.specs.Prelude.{◌≡◌, [], IfOk, length, slice_get, Some
 ghost use Rattle.meta_shared_core.specs.Roots.{root_place, root_of, AreRoots, AreNumberedRoots};
 
 use super::root::Root;
-use super::root_rows::add_roots;
+use super::root_rows::{ROOTS, add_roots};
 use meta_types::Text;
 use meta_typevar::{TypeVar, TypeVars};
 use std::alloc::{AllocError, Global};
@@ -112,6 +112,34 @@ pub struct Roots {
     pub tv_memto: TypeVar,
 }
 
+/// Gives a macro each root with its field in `Roots`, after the arguments.
+macro_rules! each_root {
+    ($with:ident $($arguments:tt)*) => {
+        $with! { ($($arguments)*)
+            ST1 tv_st1, ST2 tv_st2, I32 tv_i32, A1 tv_a1, A2 tv_a2, V1 tv_v1, B1 tv_b1, B2 tv_b2, Int1 tv_int1,
+            Int4 tv_int4, IxN tv_ixn, I8 tv_i8, F16 tv_f16, F32 tv_f32, F64 tv_f64, F128 tv_f128, Int2 tv_int2,
+            NarrowInt tv_narrowint, NarrowScalar tv_narrowscalar, IB tv_ib, Truthy tv_truthy, AtomicMem tv_atomicmem,
+            IntTo1 tv_intto1, IntTo2 tv_intto2, Int3 tv_int3, ISwappable tv_iswappable, WideInt tv_wideint, V2 tv_v2,
+            Any tv_any, Bits tv_bits, Mem tv_mem, IExt8 tv_iext8, IExt16 tv_iext16, I32_64 tv_i32_64,
+            IExt32 tv_iext32, I16x8 tv_i16x8, I32x4 tv_i32x4, I64x2 tv_i64x2, Tx16 tv_tx16, I16or32 tv_i16or32,
+            Float tv_float, W tv_w, N tv_n, FloatScalar tv_floatscalar, F64x2 tv_f64x2, F32x4 tv_f32x4,
+            IntTo3 tv_intto3, FloatTo tv_floatto, V3 tv_v3, MemTo tv_memto
+        }
+    };
+}
+
+macro_rules! roots_at {
+    (($found:ident) $($root:ident $field:ident),*) => {
+        Roots { $($field: root_at($found, Root::$root)),* }
+    };
+}
+
+macro_rules! root_in {
+    (($roots:ident, $wanted:ident) $($root:ident $field:ident),*) => {
+        match $wanted { $(Root::$root => $roots.$field),* }
+    };
+}
+
 fn root_at(found: &[TypeVar], root: Root) -> TypeVar
     requires { length found.now ≡ 50 }
     ensures { slice_get found.now (root_place root) ≡ Some result }
@@ -124,58 +152,7 @@ fn named(found: &[TypeVar]) -> Roots
     requires { length found.now ≡ 50 }
     ensures { (root : Root) → slice_get found.now (root_place root) ≡ Some (root_of result root) }
 {
-    Roots {
-        tv_st1: root_at(found, Root::ST1),
-        tv_st2: root_at(found, Root::ST2),
-        tv_i32: root_at(found, Root::I32),
-        tv_a1: root_at(found, Root::A1),
-        tv_a2: root_at(found, Root::A2),
-        tv_v1: root_at(found, Root::V1),
-        tv_b1: root_at(found, Root::B1),
-        tv_b2: root_at(found, Root::B2),
-        tv_int1: root_at(found, Root::Int1),
-        tv_int4: root_at(found, Root::Int4),
-        tv_ixn: root_at(found, Root::IxN),
-        tv_i8: root_at(found, Root::I8),
-        tv_f16: root_at(found, Root::F16),
-        tv_f32: root_at(found, Root::F32),
-        tv_f64: root_at(found, Root::F64),
-        tv_f128: root_at(found, Root::F128),
-        tv_int2: root_at(found, Root::Int2),
-        tv_narrowint: root_at(found, Root::NarrowInt),
-        tv_narrowscalar: root_at(found, Root::NarrowScalar),
-        tv_ib: root_at(found, Root::IB),
-        tv_truthy: root_at(found, Root::Truthy),
-        tv_atomicmem: root_at(found, Root::AtomicMem),
-        tv_intto1: root_at(found, Root::IntTo1),
-        tv_intto2: root_at(found, Root::IntTo2),
-        tv_int3: root_at(found, Root::Int3),
-        tv_iswappable: root_at(found, Root::ISwappable),
-        tv_wideint: root_at(found, Root::WideInt),
-        tv_v2: root_at(found, Root::V2),
-        tv_any: root_at(found, Root::Any),
-        tv_bits: root_at(found, Root::Bits),
-        tv_mem: root_at(found, Root::Mem),
-        tv_iext8: root_at(found, Root::IExt8),
-        tv_iext16: root_at(found, Root::IExt16),
-        tv_i32_64: root_at(found, Root::I32_64),
-        tv_iext32: root_at(found, Root::IExt32),
-        tv_i16x8: root_at(found, Root::I16x8),
-        tv_i32x4: root_at(found, Root::I32x4),
-        tv_i64x2: root_at(found, Root::I64x2),
-        tv_tx16: root_at(found, Root::Tx16),
-        tv_i16or32: root_at(found, Root::I16or32),
-        tv_float: root_at(found, Root::Float),
-        tv_w: root_at(found, Root::W),
-        tv_n: root_at(found, Root::N),
-        tv_floatscalar: root_at(found, Root::FloatScalar),
-        tv_f64x2: root_at(found, Root::F64x2),
-        tv_f32x4: root_at(found, Root::F32x4),
-        tv_intto3: root_at(found, Root::IntTo3),
-        tv_floatto: root_at(found, Root::FloatTo),
-        tv_v3: root_at(found, Root::V3),
-        tv_memto: root_at(found, Root::MemTo),
-    }
+    each_root!(roots_at found)
 }
 
 impl Roots {
@@ -186,7 +163,7 @@ impl Roots {
         ensures roots { IfOk result (AreRoots vars.new) }
         ensures count { IfOk result (λ _. length vars.new ≡ 50) }
     {
-        let mut found = add_roots(alloc, vars)?;
+        let mut found = add_roots(alloc, vars, &ROOTS)?;
         let mem = found[Root::Mem as usize];
         found.push(TypeVar::copy_from(vars, mem, Text::new(alloc, "MemTo")?)?)?;
         Ok(named(&found))
@@ -196,57 +173,6 @@ impl Roots {
     pub fn variable(&self, root: Root) -> TypeVar
         ensures { result ≡ root_of self.now root }
     {
-        match root {
-            Root::ST1 => self.tv_st1,
-            Root::ST2 => self.tv_st2,
-            Root::I32 => self.tv_i32,
-            Root::A1 => self.tv_a1,
-            Root::A2 => self.tv_a2,
-            Root::V1 => self.tv_v1,
-            Root::B1 => self.tv_b1,
-            Root::B2 => self.tv_b2,
-            Root::Int1 => self.tv_int1,
-            Root::Int4 => self.tv_int4,
-            Root::IxN => self.tv_ixn,
-            Root::I8 => self.tv_i8,
-            Root::F16 => self.tv_f16,
-            Root::F32 => self.tv_f32,
-            Root::F64 => self.tv_f64,
-            Root::F128 => self.tv_f128,
-            Root::Int2 => self.tv_int2,
-            Root::NarrowInt => self.tv_narrowint,
-            Root::NarrowScalar => self.tv_narrowscalar,
-            Root::IB => self.tv_ib,
-            Root::Truthy => self.tv_truthy,
-            Root::AtomicMem => self.tv_atomicmem,
-            Root::IntTo1 => self.tv_intto1,
-            Root::IntTo2 => self.tv_intto2,
-            Root::Int3 => self.tv_int3,
-            Root::ISwappable => self.tv_iswappable,
-            Root::WideInt => self.tv_wideint,
-            Root::V2 => self.tv_v2,
-            Root::Any => self.tv_any,
-            Root::Bits => self.tv_bits,
-            Root::Mem => self.tv_mem,
-            Root::IExt8 => self.tv_iext8,
-            Root::IExt16 => self.tv_iext16,
-            Root::I32_64 => self.tv_i32_64,
-            Root::IExt32 => self.tv_iext32,
-            Root::I16x8 => self.tv_i16x8,
-            Root::I32x4 => self.tv_i32x4,
-            Root::I64x2 => self.tv_i64x2,
-            Root::Tx16 => self.tv_tx16,
-            Root::I16or32 => self.tv_i16or32,
-            Root::Float => self.tv_float,
-            Root::W => self.tv_w,
-            Root::N => self.tv_n,
-            Root::FloatScalar => self.tv_floatscalar,
-            Root::F64x2 => self.tv_f64x2,
-            Root::F32x4 => self.tv_f32x4,
-            Root::IntTo3 => self.tv_intto3,
-            Root::FloatTo => self.tv_floatto,
-            Root::V3 => self.tv_v3,
-            Root::MemTo => self.tv_memto,
-        }
+        each_root!(root_in self, root)
     }
 }

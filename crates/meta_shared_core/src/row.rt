@@ -54,7 +54,6 @@ pub struct Row {
     pub marks: &'static [Mark],
 }
 
-/// The documentation of an operand, if it has one of its own.
 #[macro_export]
 macro_rules! own_doc {
     () => { None };

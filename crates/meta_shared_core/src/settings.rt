@@ -1,9 +1,9 @@
 //! The group of settings that all targets share.
-ghost use Rattle.std.specs.Prelude.{◌≡◌, ◌+◌, ◌<◌, ◌^◌, [], IfOk, OnOk, length, map, take, drop};
+ghost use Rattle.std.specs.Prelude.{◌≡◌, ◌+◌, ◌<◌, ◌^◌, IfOk, OnOk, length, map, take, drop};
 ghost use Rattle.meta_settings.specs.GroupDeclaration.{entry_count};
 ghost use Rattle.meta_settings.specs.Declaring.{with_setting};
-ghost use Rattle.meta_shared_core.specs.Settings.{texts_of, choice_values, setting_of, setting_name, setting_names, with_settings};
-ghost use Rattle.meta_shared_core.specs.Settings.{HasSharedSettings, IsSharedGroup};
+ghost use Rattle.meta_shared_core.specs.Settings.{texts_of, setting_of, setting_name, setting_names, with_settings};
+ghost use Rattle.meta_shared_core.specs.Settings.{IsSharedGroup};
 
 use meta_settings::SettingGroupBuilder;
 use meta_types::Text;
@@ -18,7 +18,6 @@ enum Choice {
     Num(u8),
 }
 
-/// A row of the table of settings.
 #[derive(Clone, Copy)]
 struct SettingRow {
     name: &'static str,
@@ -26,7 +25,6 @@ struct SettingRow {
     description: &'static str,
 }
 
-/// The kind of a setting, from the words of the table.
 macro_rules! choice {
     (bool $default:literal) => { Choice::Bool($default) };
     (enum $($value:ident)+) => { Choice::Enum(&[$(stringify!($value)),+]) };
@@ -88,7 +86,6 @@ fn last_rows() -> &'static [SettingRow]
     &LAST_SETTINGS
 }
 
-/// Copies of the texts.
 fn texts(alloc: Global, values: &[&str]) -> Result<Vec<Text>, AllocError>
     ensures { IfOk result (λ v. v.items ≡ texts_of values.now) }
 {
@@ -99,27 +96,6 @@ fn texts(alloc: Global, values: &[&str]) -> Result<Vec<Text>, AllocError>
     Ok(texts)
 }
 
-/// The texts of an enum's values. A setting of another kind has none.
-fn values_of(alloc: Global, choice: Choice) -> Result<Vec<Text>, AllocError>
-    ensures { IfOk result (λ v. v.items ≡ choice_values choice) }
-{
-    match choice {
-        Choice::Enum(values) => texts(alloc, values),
-        Choice::Bool(_) | Choice::Num(_) => Ok(Vec::new(alloc)),
-    }
-}
-
-/// The name, the description and the comment of a row. The comment is empty.
-fn labels(alloc: Global, row: &SettingRow) -> Result<(Text, Text, Text), AllocError>
-    ensures name { IfOk result (λ t. t.0 ≡ row.now.name.now) }
-    ensures description { IfOk result (λ t. t.1 ≡ row.now.description.now) }
-    ensures comment { IfOk result (λ t. t.2 ≡ []) }
-{
-    let name = Text::new(alloc, row.name)?;
-    let description = Text::new(alloc, row.description)?;
-    Ok((name, description, Text::new(alloc, "")?))
-}
-
 fn add_setting(
     alloc: Global,
     group: &mut SettingGroupBuilder,
@@ -128,14 +104,17 @@ fn add_setting(
     requires { entry_count group.old + 1 < 2 ^ 32 }
     ensures { OnOk result (group.new ≡ with_setting group.old (setting_of row.now)) }
 {
-    let values = values_of(alloc, row.choice)?;
-    let (name, description, comment) = labels(alloc, row)?;
+    let name = Text::new(alloc, row.name)?;
+    let description = Text::new(alloc, row.description)?;
+    let comment = Text::new(alloc, "")?;
     match row.choice {
         Choice::Bool(default) => {
             group.add_bool(name, description, comment, default)?;
             Ok(())
         }
-        Choice::Enum(_) => group.add_enum(name, description, comment, values),
+        Choice::Enum(values) => {
+            group.add_enum(name, description, comment, texts(alloc, values)?)
+        }
         Choice::Num(default) => group.add_num(name, description, comment, default),
     }
 }
@@ -154,20 +133,12 @@ fn add_settings(
     Ok(())
 }
 
-/// Adds all 27 settings, in order.
-fn add_all(alloc: Global, group: &mut SettingGroupBuilder) -> Result<(), AllocError>
-    requires { entry_count group.old + 27 < 2 ^ 32 }
-    ensures { OnOk result (HasSharedSettings group.old group.new) }
-{
-    add_settings(alloc, group, first_rows())?;
-    add_settings(alloc, group, last_rows())
-}
-
 /// Declares the group `shared` with its 27 settings.
 pub fn define(alloc: Global) -> Result<SettingGroupBuilder, AllocError>
     ensures { IfOk result IsSharedGroup }
 {
     let mut group = SettingGroupBuilder::new(alloc, Text::new(alloc, "shared")?);
-    add_all(alloc, &mut group)?;
+    add_settings(alloc, &mut group, first_rows())?;
+    add_settings(alloc, &mut group, last_rows())?;
     Ok(group)
 }

@@ -1,14 +1,11 @@
+ghost use Rattle.meta_shared_core.specs.CoreFormats.{core_formats};
+ghost use Rattle.meta_shared_core.specs.CoreNames.{core_names};
 ghost use Rattle.meta_shared_core.specs.Rows.{IsTable, rows_in};
-ghost use Rattle.meta_shared_core.specs.CoreNames.{core_names, control_flow_names, calls_names, lanes_names, vector_integers_names};
-ghost use Rattle.meta_shared_core.specs.CoreNames.{memory_names, vector_loads_names, addresses_names, constants_names, selection_names};
-ghost use Rattle.meta_shared_core.specs.CoreFormats.{core_formats, control_flow_formats, calls_formats, lanes_formats};
-ghost use Rattle.meta_shared_core.specs.CoreFormats.{vector_integers_formats, memory_formats, vector_loads_formats, addresses_formats};
-ghost use Rattle.meta_shared_core.specs.CoreFormats.{constants_formats, selection_formats};
 
 use super::row::Row;
 use super::rows;
 
-/// Control flow and traps.
+/// Control flow and traps: the instructions 1 to 8.
 static CONTROL_FLOW: [Row; 8] = rows! {
     jump: Jump(block_call: block_call "Destination basic block, with its arguments provided" ->) Branch
         "Jump.";
@@ -28,14 +25,7 @@ static CONTROL_FLOW: [Row; 8] = rows! {
         "Return from the function.";
 };
 
-/// The instructions 1 to 8.
-fn control_flow() -> &'static [Row]
-    ensures { IsTable control_flow_names control_flow_formats 0 result.now }
-{
-    &CONTROL_FLOW
-}
-
-/// Calls.
+/// The instructions 9 to 15.
 static CALLS: [Row; 7] = rows! {
     call: Call(FN: func_ref "function to call, declared by `function`",
         args: varargs "call arguments" -> rvals: varargs "return values") Call
@@ -58,14 +48,7 @@ static CALLS: [Row; 7] = rows! {
         "Call a function, catching the specified exceptions.";
 };
 
-/// The instructions 9 to 15.
-fn calls() -> &'static [Row]
-    ensures { IsTable calls_names calls_formats 0 result.now }
-{
-    &CALLS
-}
-
-/// Vectors by their lanes.
+/// Vectors by their lanes: the instructions 16 to 20.
 static LANES: [Row; 5] = rows! {
     splat: Unary(x: lane_of(V1) "Value to splat to all lanes" -> a: V1)
         "Vector splat.";
@@ -79,14 +62,7 @@ static LANES: [Row; 5] = rows! {
         "Extract lane ``Idx`` from ``x``.";
 };
 
-/// The instructions 16 to 20.
-fn lanes() -> &'static [Row]
-    ensures { IsTable lanes_names lanes_formats 3 result.now }
-{
-    &LANES
-}
-
-/// Minima, maxima, averages and saturating sums.
+/// Minima, maxima, averages and saturating sums: the instructions 21 to 29.
 static VECTOR_INTEGERS: [Row; 9] = rows! {
     smin: Binary(x: Int1, y: Int1 -> a: Int1)
         "Signed integer minimum.";
@@ -108,14 +84,7 @@ static VECTOR_INTEGERS: [Row; 9] = rows! {
         "Subtract with signed saturation.";
 };
 
-/// The instructions 21 to 29.
-fn vector_integers() -> &'static [Row]
-    ensures { IsTable vector_integers_names vector_integers_formats 0 result.now }
-{
-    &VECTOR_INTEGERS
-}
-
-/// Loads and stores of one value, and the switch of stacks.
+/// Loads and stores of one value, and the switch of stacks: the instructions 30 to 41.
 static MEMORY: [Row; 12] = rows! {
     load: Load(MemFlags: memflags, p: A2, Offset: offset32 "Byte offset from base address" -> a: Mem "Value loaded") Load
         "Load from memory at ``p + Offset``.";
@@ -143,14 +112,7 @@ static MEMORY: [Row; 12] = rows! {
         "Suspends execution of the current stack and resumes execution of another";
 };
 
-/// The instructions 30 to 41.
-fn memory() -> &'static [Row]
-    ensures { IsTable memory_names memory_formats 0 result.now }
-{
-    &MEMORY
-}
-
-/// Loads that widen each lane.
+/// Loads that widen each lane: the instructions 42 to 47.
 static VECTOR_LOADS: [Row; 6] = rows! {
     uload8x8: Load(MemFlags: memflags, p: A2, Offset: offset32 "Byte offset from base address" -> a: I16x8 "Value loaded") Load
         "Load an 8x8 vector (64 bits) from memory at ``p + Offset`` and zero-extend into an i16x8";
@@ -166,14 +128,7 @@ static VECTOR_LOADS: [Row; 6] = rows! {
         "Load a 32x2 vector (64 bits) from memory at ``p + Offset`` and sign-extend into an i64x2";
 };
 
-/// The instructions 42 to 47.
-fn vector_loads() -> &'static [Row]
-    ensures { IsTable vector_loads_names vector_loads_formats 0 result.now }
-{
-    &VECTOR_LOADS
-}
-
-/// Addresses, and registers that hold them.
+/// Addresses, and registers that hold them: the instructions 48 to 57.
 static ADDRESSES: [Row; 10] = rows! {
     stack_addr: StackAddr(SS: stack_slot, Offset: offset32 "In-bounds offset into stack slot" -> addr: A2)
         "Get the address of a stack slot.";
@@ -197,14 +152,7 @@ static ADDRESSES: [Row; 10] = rows! {
         "Get the handler PC for the given exceptional edge for an";
 };
 
-/// The instructions 48 to 57.
-fn addresses() -> &'static [Row]
-    ensures { IsTable addresses_names addresses_formats 0 result.now }
-{
-    &ADDRESSES
-}
-
-/// Constants, and what needs no operand.
+/// Constants, and what needs no operand: the instructions 58 to 65.
 static CONSTANTS: [Row; 8] = rows! {
     iconst: UnaryImm(N: imm64 -> a: NarrowInt "A constant integer scalar or vector value")
         "Integer constant.";
@@ -225,14 +173,7 @@ static CONSTANTS: [Row; 8] = rows! {
         "Just a dummy instruction.";
 };
 
-/// The instructions 58 to 65.
-fn constants() -> &'static [Row]
-    ensures { IsTable constants_names constants_formats 0 result.now }
-{
-    &CONSTANTS
-}
-
-/// Selection, and vectors that are reduced to a scalar.
+/// Selection, and vectors that are reduced to a scalar: the instructions 66 to 72.
 static SELECTION: [Row; 7] = rows! {
     select: Ternary(c: ST2 "Controlling value to test", x: Any "Value to use when `c` is true",
         y: Any "Value to use when `c` is false" -> a: Any)
@@ -254,26 +195,19 @@ static SELECTION: [Row; 7] = rows! {
         "Reduce a vector to a scalar integer.";
 };
 
-/// The instructions 66 to 72.
-fn selection() -> &'static [Row]
-    ensures { IsTable selection_names selection_formats 0 result.now }
-{
-    &SELECTION
-}
-
 /// The tables of the instructions 1 to 72.
 pub(crate) fn core_tables() -> [&'static [Row]; 9]
     ensures { IsTable core_names core_formats 3 (rows_in result) }
 {
     [
-        control_flow(),
-        calls(),
-        lanes(),
-        vector_integers(),
-        memory(),
-        vector_loads(),
-        addresses(),
-        constants(),
-        selection(),
+        &CONTROL_FLOW,
+        &CALLS,
+        &LANES,
+        &VECTOR_INTEGERS,
+        &MEMORY,
+        &VECTOR_LOADS,
+        &ADDRESSES,
+        &CONSTANTS,
+        &SELECTION,
     ]
 }

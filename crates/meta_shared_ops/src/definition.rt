@@ -11,7 +11,7 @@ ghost use Rattle.meta_shared_ops.specs.OpsFormats.{ops_formats};
 ghost use Rattle.meta_shared_ops.specs.OpsNames.{ops_names};
 
 use super::tables::ops_tables;
-use meta_declared::Declarations;
+use meta_build::Declarations;
 use meta_inst::AllInstructions;
 use meta_operands::FormatTable;
 use meta_shared_core::{

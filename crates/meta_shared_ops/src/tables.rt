@@ -9,7 +9,6 @@ ghost use Rattle.meta_shared_ops.specs.OpsFormats.{lane_widths_formats, extensio
 
 use meta_shared_core::{Row, rows};
 
-/// Arithmetic on integers.
 static ARITHMETIC: [Row; 10] = rows! {
     icmp: IntCompare(Cond: intcc, x: Int2, y: Int2 -> a: as_truthy(Int2)) ImmMethod
         "Integer comparison.";
@@ -40,7 +39,6 @@ fn arithmetic() -> &'static [Row]
     &ARITHMETIC
 }
 
-/// Division of integers.
 static DIVISION: [Row; 4] = rows! {
     udiv: Binary(x: iB, y: iB -> a: iB) Trap Idempotent ImmMethod
         "Unsigned integer division: `a := \\lfloor {x \\over y} \\rfloor`.";
@@ -144,7 +142,6 @@ fn bit_counts() -> &'static [Row]
     &BIT_COUNTS
 }
 
-/// Arithmetic on floating-point numbers.
 static FLOATS: [Row; 12] = rows! {
     fcmp: FloatCompare(Cond: floatcc, x: Float, y: Float -> a: as_truthy(Float))
         "Floating point comparison.";
@@ -179,7 +176,6 @@ fn floats() -> &'static [Row]
     &FLOATS
 }
 
-/// Rounding of floating-point numbers.
 static ROUNDING: [Row; 4] = rows! {
     ceil: Unary(x: Float -> a: Float "``x`` rounded to integral value")
         "Round floating point round to integral, towards positive infinity.";
@@ -309,7 +305,6 @@ fn halves() -> &'static [Row]
     &HALVES
 }
 
-/// Atomic operations on memory.
 static ATOMICS: [Row; 5] = rows! {
     atomic_rmw: AtomicRmw(MemFlags: memflags, AtomicRmwOp: atomic_rmw_op, p: A2, x: AtomicMem "Value to be atomically stored"
         -> a: AtomicMem "Value atomically loaded") Load Store OtherEffect
@@ -332,7 +327,6 @@ fn atomics() -> &'static [Row]
     &ATOMICS
 }
 
-/// Other instructions.
 static LAST_ROWS: [Row; 2] = rows! {
     extract_vector: BinaryImm8(x: V3 "The dynamic vector to extract from",
         y: uimm8 "128-bit vector index" -> a: dynamic_to_vector(V3) "New fixed vector")

@@ -6,10 +6,10 @@ use Rattle.meta_types.specs.TypeParts.{number_of}
 use Rattle.meta_types.specs.TypeNumber.{type_with, IsTypeNumber}
 use Rattle.meta_types.specs.TypeText.{rust_name_of}
 use Rattle.meta_types.proofs.Names.{one_name}
-use Rattle.meta_meaning.specs.Tables.{NumberConstraint, ConcreteNumber, FreeOf, SameNumber, ByNumber}
+use Rattle.meta_inst.specs.Tables.{NumberConstraint, ConcreteNumber, FreeOf, SameNumber, ByNumber}
 use Rattle.meta_text.specs.Lines.{at, text_of}
 use Rattle.meta_table_text.specs.ConstraintText.{type_text, constraint_text, constraint_line}
-use Rattle.meta_cursor.proofs.Cancel.{cancel_front, cancel_item, cancel_number}
+use Rattle.meta_table_reader.proofs.Cancel.{cancel_front, cancel_item, cancel_number}
 use Rattle.meta_table_reader.specs.Shown.{IsShownConstraint}
 use Rattle.meta_table_reader.specs.Words.{small_letter, IsOfControl}
 use Rattle.meta_table_reader.proofs.TypesRead.{capitals, come_back, capitals_lack_parenthesis, type_text_is}

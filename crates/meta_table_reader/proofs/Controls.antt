@@ -7,9 +7,9 @@ use Rattle.meta_types.specs.Function.{Function, LaneOf}
 use Rattle.meta_types.specs.DerivedFunc.{camel_function_name}
 use Rattle.meta_types.proofs.Functions.{camel_names_differ}
 use Rattle.meta_inst.specs.Which.{Which, First, Second}
-use Rattle.meta_meaning.specs.Tables.{NumberConstraint, ConcreteNumber, FreeOf, SameNumber, ByNumber}
+use Rattle.meta_inst.specs.Tables.{NumberConstraint, ConcreteNumber, FreeOf, SameNumber, ByNumber}
 use Rattle.meta_table_text.specs.ConstraintText.{control_mark, constraint_text, constraint_line}
-use Rattle.meta_cursor.specs.Spans.{lacks}
+use Rattle.meta_table_reader.specs.Spans.{lacks}
 use Rattle.meta_table_reader.specs.Words.{IsOfControl, ends_marked}
 
 -- ---- the two parts of a word

@@ -6,7 +6,7 @@ use Rattle.meta_setting_tables.specs.declared.descriptor.Detail.{Detail}
 use Rattle.meta_setting_tables.specs.declared.descriptor.Detail.TheVariants.{Bool as ABool, Enum as AnEnum, Num as ANum, Preset}
 use Rattle.meta_setting_tables.specs.declared.descriptor.Descriptor.{Descriptor}
 use Rattle.meta_table_text.specs.GroupItems.{enumerator_text, detail_text, descriptor_block, descriptor_text}
-use Rattle.meta_cursor.proofs.Cancel.{cancel_front, cancel_item, cancel_number}
+use Rattle.meta_table_reader.proofs.Cancel.{cancel_front, cancel_item, cancel_number}
 use Rattle.meta_table_reader.specs.ShownGroup.{IsShownEnum, IsShownDetail, IsShownDescriptor}
 use Rattle.meta_table_reader.proofs.NameBytes.{name_lacks_quote, plain_lacks_quote}
 use Rattle.meta_table_reader.proofs.Details.{first_letter, letter_is, is_bool, is_enum, is_num, is_preset}

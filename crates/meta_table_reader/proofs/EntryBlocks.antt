@@ -5,14 +5,14 @@ use Rattle.std.specs.Fmt.{decimal, digit_glyph}
 use Rattle.std.specs.List.{flat_map}
 use Rattle.std.proofs.lemmas.Bool.Decides.{nat_tests}
 use Rattle.meta_types.specs.Name.{IsName}
-use Rattle.meta_meaning.specs.Tables.{TableContents, OpcodeNumbers}
+use Rattle.meta_inst.specs.Tables.{TableContents, OpcodeNumbers}
 use Rattle.meta_table_text.specs.declared.version.Version.{Version}
 use Rattle.meta_table_text.specs.declared.version.Version.TheVariants.{One, Two, Three}
 use Rattle.meta_table_text.specs.Version.{offset_shown}
 use Rattle.meta_table_text.specs.TypeSetText.{block_end}
 use Rattle.meta_table_text.specs.OpcodeText.{hex_byte, flags_lines, place_line, second_line, entry_fields, entry_comments, entry_block}
 use Rattle.meta_table_text.specs.OpcodeText.{block_or_nothing, opcode_block}
-use Rattle.meta_cursor.proofs.Cancel.{cancel_front, cancel_number, cancel_lines}
+use Rattle.meta_table_reader.proofs.Cancel.{cancel_front, cancel_number, cancel_lines}
 use Rattle.meta_table_reader.specs.EntryLines.{control_lines, second_lines}
 use Rattle.meta_table_reader.specs.Shown.{IsShownConstraint, IsShownOffset, IsShownSecond, IsShownEntry}
 use Rattle.meta_table_reader.proofs.Offsets.{shown_small, offset_told}

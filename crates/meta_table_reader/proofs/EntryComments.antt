@@ -13,17 +13,17 @@ use Rattle.std.proofs.lemmas.Option.{get_or_from_slice_get, slice_get_within}
 use Rattle.meta_types.specs.Name.{IsName}
 use Rattle.meta_types.specs.TypeNumber.{type_with}
 use Rattle.meta_types.specs.CamelCase.{camel_case_of}
-use Rattle.meta_meaning.specs.Tables.{TableContents, OpcodeNumbers, NumberConstraint, ConcreteNumber, FreeOf, SameNumber, ByNumber}
-use Rattle.meta_meaning.specs.Tables.{at_opcode, no_type_set, result_count, value_count}
+use Rattle.meta_inst.specs.Tables.{TableContents, OpcodeNumbers, NumberConstraint, ConcreteNumber, FreeOf, SameNumber, ByNumber}
+use Rattle.meta_inst.specs.Tables.{at_opcode, no_type_set, result_count, value_count}
 use Rattle.meta_table_text.specs.declared.version.Version.{Version}
 use Rattle.meta_table_text.specs.declared.version.Version.TheVariants.{One, Two, Three}
 use Rattle.meta_table_text.specs.TypeSetText.{set_or_nothing, set_comment, block_end}
 use Rattle.meta_table_text.specs.ConstraintText.{type_text, constraint_text, quoted, quoted_all, constraints_comment}
 use Rattle.meta_table_text.specs.OpcodeText.{or_nothing, camel_at, bool_text, flags_comment, constraints_of, control_comment}
 use Rattle.meta_table_text.specs.OpcodeText.{second_comment, entry_comments}
-use Rattle.meta_cursor.specs.Spans.{lacks, is_line}
-use Rattle.meta_cursor.proofs.Ends.{number_lacks}
-use Rattle.meta_cursor.proofs.Lacking.{both_lack, line_behind}
+use Rattle.meta_table_reader.specs.Spans.{lacks, is_line}
+use Rattle.meta_table_reader.proofs.Ends.{number_lacks}
+use Rattle.meta_table_reader.proofs.Lacking.{both_lack, line_behind}
 use Rattle.meta_table_reader.specs.EntryLines.{control_lines, second_lines}
 use Rattle.meta_table_reader.specs.Shown.{IsShownConstraint}
 use Rattle.meta_table_reader.proofs.SetLines.{HasNoEnd, parted_lacks, set_or_nothing_lacks, set_comment_line, are_lines}

@@ -8,9 +8,9 @@ use Rattle.meta_setting_tables.specs.declared.descriptor.Descriptor.{Descriptor}
 use Rattle.meta_table_text.specs.GroupItems.{slot_text, pair_text, texts_with_commas, comment_text}
 use Rattle.meta_setting_tables.specs.EntryValues.{is_on, names_on, masks_from}
 use Rattle.meta_table_text.specs.GroupText.{preset_text}
-use Rattle.meta_cursor.specs.Spans.{is_line}
-use Rattle.meta_cursor.proofs.Lacking.{both_lack, line_behind, any_number_lacks}
-use Rattle.meta_cursor.proofs.Reading.{all_first, all_behind}
+use Rattle.meta_table_reader.specs.Spans.{is_line}
+use Rattle.meta_table_reader.proofs.Lacking.{both_lack, line_behind, any_number_lacks}
+use Rattle.meta_table_reader.proofs.ItemsRead.{all_first, all_behind}
 use Rattle.meta_table_reader.specs.ShownGroup.{IsShownDescriptor}
 use Rattle.meta_table_reader.proofs.SetLines.{HasNoEnd}
 use Rattle.meta_table_reader.proofs.NameBytes.{name_lacks_end}

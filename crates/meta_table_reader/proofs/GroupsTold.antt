@@ -18,8 +18,8 @@ use Rattle.meta_setting_tables.specs.EntryValues.{masks_from, names_on}
 use Rattle.meta_setting_tables.specs.WellFormed.{is_preset}
 use Rattle.meta_table_text.specs.GroupText.{enumerators_text, descriptors_text, slots_text, presets_in, preset_text, presets_text}
 use Rattle.meta_table_text.specs.GroupText.{group_text}
-use Rattle.meta_cursor.proofs.Cancel.{cancel_front, cancel_item, cancel_line, cancel_lines, cancel_items}
-use Rattle.meta_cursor.proofs.Reading.{all_first, all_behind}
+use Rattle.meta_table_reader.proofs.Cancel.{cancel_front, cancel_item, cancel_line, cancel_lines, cancel_items}
+use Rattle.meta_table_reader.proofs.ItemsRead.{all_first, all_behind}
 use Rattle.meta_table_reader.specs.ShownGroup.{IsShownDescriptor, IsByte, AreShownMasksOf, AreShownPresets, AreShownGroup}
 use Rattle.meta_table_reader.proofs.Heads.{list_told}
 use Rattle.meta_table_reader.proofs.NameBytes.{name_lacks_dot}

@@ -3,7 +3,7 @@ use Rattle.std.proofs.Common.{◌≡◌, ℕ, ◌<◌, ◌^◌, List, ◌++◌, 
 use Rattle.std.specs.Fmt.{decimal}
 use Rattle.meta_table_text.specs.declared.table_list.TableList.{TableList}
 use Rattle.meta_table_text.specs.Lists.{title_of, head_of, list_head, list_end, list_text}
-use Rattle.meta_cursor.proofs.Cancel.{cancel_front, cancel_number}
+use Rattle.meta_table_reader.proofs.Cancel.{cancel_front, cancel_number}
 
 -- what stands before the first element, the elements, and the end, and then the rest
 pub list_grouped : (list : TableList) (n : ℕ) (lines rest : List ℕ)

@@ -1,3 +1,9 @@
+-- where an item of a text ends
+mod Ends
+pub mod Lacking
+mod Cancel
+-- items, one after the other
+pub mod ItemsRead
 -- lines that are skipped
 mod SetLines
 mod SetBlocks

@@ -6,9 +6,9 @@ use Rattle.std.specs.Str.{IsAscii}
 use Rattle.meta_types.specs.Name.{IsNameByte, IsName}
 use Rattle.meta_types.specs.CamelCase.{capital_at, camel_from, camel_case_of}
 use Rattle.meta_settings.specs.GroupFaults.{IsPlainByte}
-use Rattle.meta_cursor.specs.Spans.{lacks}
-use Rattle.meta_cursor.proofs.Lacking.{lacks_by, ascii_by}
-use Rattle.meta_cursor.proofs.Reading.{all_first, all_behind}
+use Rattle.meta_table_reader.specs.Spans.{lacks}
+use Rattle.meta_table_reader.proofs.Lacking.{lacks_by, ascii_by}
+use Rattle.meta_table_reader.proofs.ItemsRead.{all_first, all_behind}
 
 -- each byte of a name is one that a name may have
 pub all_name_bytes : (name : List ℕ) → IsName name → All IsNameByte name

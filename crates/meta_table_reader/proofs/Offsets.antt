@@ -1,7 +1,7 @@
 -- The places of type sets, as versions show them.
 use Rattle.std.proofs.Common.{◌≡◌, ℕ, ◌<◌, ◌^◌, ◌==◌, cond, false, inl, inr, refl, sym, ap, ◌∙◌, arith}
 use Rattle.std.proofs.lemmas.Bool.Decides.{nat_tests}
-use Rattle.meta_meaning.specs.Tables.{no_type_set}
+use Rattle.meta_inst.specs.Tables.{no_type_set}
 use Rattle.meta_table_text.specs.declared.version.Version.{Version}
 use Rattle.meta_table_text.specs.declared.version.Version.TheVariants.{One, Two, Three}
 use Rattle.meta_table_text.specs.Version.{none_of, offset_shown}

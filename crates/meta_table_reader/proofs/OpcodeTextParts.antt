@@ -7,19 +7,19 @@ use Rattle.std.proofs.lemmas.Bool.{eqb-true}
 use Rattle.std.proofs.lemmas.List.{nil_from_length}
 use Rattle.std.proofs.lemmas.List.Elements.{All-map}
 use Rattle.meta_types.specs.Name.{IsName}
-use Rattle.meta_meaning.specs.Tables.{TableContents, NumberConstraint}
-use Rattle.meta_opcode_tables.specs.Constraint.{number_constraint_of}
+use Rattle.meta_inst.specs.Tables.{TableContents, NumberConstraint}
+use Rattle.meta_gen.specs.Constraint.{number_constraint_of}
 use Rattle.meta_table_text.specs.declared.version.Version.{Version}
 use Rattle.meta_table_text.specs.declared.version.Version.TheVariants.{One, Two, Three}
 use Rattle.meta_table_text.specs.Lists.{list_head}
 use Rattle.meta_table_text.specs.ConstraintText.{constraint_line}
 use Rattle.meta_table_text.specs.OpcodeText.{camel_at, slot_line}
 use Rattle.meta_table_text.specs.TableText.{version_line, sets_list, sets_part, constraints_part}
-use Rattle.meta_cursor.specs.Spans.{is_line}
-use Rattle.meta_cursor.proofs.Lacking.{line_behind}
+use Rattle.meta_table_reader.specs.Spans.{is_line}
+use Rattle.meta_table_reader.proofs.Lacking.{line_behind}
 use Rattle.meta_table_reader.specs.Shown.{IsShownConstraint}
 use Rattle.meta_table_reader.proofs.EntryComments.{camel_lacks}
-use Rattle.meta_opcode_tables.proofs.Sameness.{constraint_from, number_constraint_back}
+use Rattle.meta_gen.proofs.Sameness.{constraint_from, number_constraint_back}
 
 -- ---- the first line
 

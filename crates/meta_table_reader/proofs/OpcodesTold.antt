@@ -6,7 +6,7 @@ use Rattle.std.proofs.lemmas.List.{length-map}
 use Rattle.std.proofs.lemmas.List.Folds.{flat_map-map}
 use Rattle.meta_lists.proofs.Places.{same_places}
 use Rattle.meta_types.specs.Name.{IsName}
-use Rattle.meta_meaning.specs.Tables.{TableContents}
+use Rattle.meta_inst.specs.Tables.{TableContents}
 use Rattle.meta_table_text.specs.declared.version.Version.{Version}
 use Rattle.meta_table_text.specs.declared.table_list.TableList.TheVariants.{Formats, OpcodeSlots, TypeSets, Constraints, Entries}
 use Rattle.meta_table_text.specs.Lists.{list_end}
@@ -15,8 +15,8 @@ use Rattle.meta_table_text.specs.ConstraintText.{constraint_line}
 use Rattle.meta_table_text.specs.OpcodeText.{each_opcode, format_line, slot_line, opcode_block}
 use Rattle.meta_table_text.specs.TableText.{version_line, formats_part, slots_part, sets_list, sets_part, constraints_part, entries_part}
 use Rattle.meta_table_text.specs.TableText.{opcodes_text}
-use Rattle.meta_cursor.proofs.Cancel.{cancel_front, cancel_item, cancel_lines, cancel_items}
-use Rattle.meta_cursor.proofs.Reading.{one_within}
+use Rattle.meta_table_reader.proofs.Cancel.{cancel_front, cancel_item, cancel_lines, cancel_items}
+use Rattle.meta_table_reader.proofs.ItemsRead.{one_within}
 use Rattle.meta_table_reader.specs.Shown.{AreShownMasks, IsShownConstraint, IsShownEntry, AreNamed, AreShownLists, AreShownOpcodes}
 use Rattle.meta_table_reader.proofs.Heads.{list_told}
 use Rattle.meta_table_reader.proofs.ByOpcode.{cancel_each}

@@ -4,7 +4,7 @@ use Rattle.std.specs.Fmt.{decimal}
 use Rattle.std.specs.List.{flat_map}
 use Rattle.meta_typevar.specs.declared.masks.Masks.{Masks}
 use Rattle.meta_table_text.specs.TypeSetText.{mask_lines, masks_text, set_comment, block_end, set_block}
-use Rattle.meta_cursor.proofs.Cancel.{cancel_front, cancel_number, cancel_lines}
+use Rattle.meta_table_reader.proofs.Cancel.{cancel_front, cancel_number, cancel_lines}
 use Rattle.meta_table_reader.specs.Shown.{AreShownMasks}
 use Rattle.meta_table_reader.proofs.SetLines.{set_lines}
 

@@ -7,10 +7,10 @@ use Rattle.std.proofs.lemmas.Bool.{and_parts, and_from, ltb-true}
 use Rattle.std.proofs.lemmas.List.Elements.{All-nil, All-cons, All-map, All-filter, All-weaker}
 use Rattle.meta_typevar.specs.declared.masks.Masks.{Masks}
 use Rattle.meta_table_text.specs.TypeSetText.{parted_behind, powers, held, members, part_of, masks_text, set_or_nothing, set_comment}
-use Rattle.meta_cursor.specs.Spans.{lacks, is_line}
-use Rattle.meta_cursor.proofs.Ends.{number_lacks}
-use Rattle.meta_cursor.proofs.Lacking.{both_lack, line_behind}
-use Rattle.meta_cursor.proofs.Reading.{all_first, all_behind}
+use Rattle.meta_table_reader.specs.Spans.{lacks, is_line}
+use Rattle.meta_table_reader.proofs.Ends.{number_lacks}
+use Rattle.meta_table_reader.proofs.Lacking.{both_lack, line_behind}
+use Rattle.meta_table_reader.proofs.ItemsRead.{all_first, all_behind}
 
 -- no LF stands in the text
 abbrev pub HasNoEnd : List ℕ → Type 0

@@ -5,9 +5,9 @@ use Rattle.std.specs.List.{flat_map}
 use Rattle.std.specs.Fmt.{digit_glyph}
 use Rattle.std.proofs.lemmas.Bool.Decides.{nat_tests}
 use Rattle.meta_table_text.specs.GroupItems.{hex_text, bytes_text}
-use Rattle.meta_cursor.specs.Spans.{lacks}
-use Rattle.meta_cursor.proofs.Lacking.{both_lack}
-use Rattle.meta_cursor.proofs.Reading.{all_first, all_behind}
+use Rattle.meta_table_reader.specs.Spans.{lacks}
+use Rattle.meta_table_reader.proofs.Lacking.{both_lack}
+use Rattle.meta_table_reader.proofs.ItemsRead.{all_first, all_behind}
 use Rattle.meta_table_reader.specs.ShownGroup.{IsByte}
 
 -- the bytes after the first, each after a comma

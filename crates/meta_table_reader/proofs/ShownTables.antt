@@ -5,8 +5,8 @@ use Rattle.std.proofs.lemmas.Option.{slice_get-get_or}
 use Rattle.meta_types.specs.TypeParts.{IntKind, FloatKind, widths, lane_counts}
 use Rattle.meta_typevar.specs.MaskSets.{holds, AreMasks}
 use Rattle.meta_typevar.specs.declared.masks.Masks.{Masks}
-use Rattle.meta_meaning.specs.Tables.{OpcodeNumbers, NumberConstraint, ConcreteNumber, FreeOf, SameNumber, ByNumber}
-use Rattle.meta_opcode_tables.specs.WellFormed.{IsWellFormedConstraint, IsSetOffset, IsWellFormedEntry, IsWellFormedOpcodes}
+use Rattle.meta_inst.specs.Tables.{OpcodeNumbers, NumberConstraint, ConcreteNumber, FreeOf, SameNumber, ByNumber}
+use Rattle.meta_gen.specs.WellFormedOpcodes.{IsWellFormedConstraint, IsSetOffset, IsWellFormedEntry, IsWellFormedOpcodes}
 use Rattle.meta_setting_tables.specs.WellFormed.{IsWellFormedGroup}
 use Rattle.meta_gen.specs.WholeTables.{WholeTables}
 use Rattle.meta_gen.specs.WellFormed.{IsWellFormed}
@@ -17,7 +17,7 @@ use Rattle.meta_table_reader.specs.Shown.{AreShownMasks, IsShownConstraint, IsSh
 use Rattle.meta_table_reader.specs.ShownGroup.{AreShownGroup}
 use Rattle.meta_table_reader.specs.Readable.{AreShown}
 use Rattle.meta_table_reader.proofs.ShownGroups.{few_slots, group_shown}
-use Rattle.meta_opcode_tables.proofs.MaskTests.{sum_some}
+use Rattle.meta_gen.proofs.MaskTests.{sum_some}
 
 -- ---- type sets
 

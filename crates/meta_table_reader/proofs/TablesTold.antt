@@ -1,9 +1,9 @@
 -- The text of well-formed tables tells the tables.
 use Rattle.std.proofs.Common.{◌≡◌, ℕ, List, [], ◌∷◌, ◌++◌, All, slice_index, refl, sym, ap, ◌∙◌, subst, append_assoc}
 use Rattle.std.specs.List.{flat_map, AllZip}
-use Rattle.meta_meaning.specs.Tables.{TableContents}
+use Rattle.meta_inst.specs.Tables.{TableContents}
 use Rattle.meta_unique.specs.NameSlots.{AreNameSlots}
-use Rattle.meta_opcode_tables.specs.WellFormed.{IsWellFormedOpcodes}
+use Rattle.meta_gen.specs.WellFormedOpcodes.{IsWellFormedOpcodes}
 use Rattle.meta_setting_tables.specs.GroupTables.{GroupContents, names_in}
 use Rattle.meta_setting_tables.specs.WellFormed.{IsWellFormedGroup}
 use Rattle.meta_unique.proofs.OneFilling.{one_filling}
@@ -14,7 +14,7 @@ use Rattle.meta_table_text.specs.Fits.{Fits}
 use Rattle.meta_table_text.specs.GroupText.{group_text}
 use Rattle.meta_table_text.specs.TableText.{version_line, formats_part, slots_part, sets_part, constraints_part, entries_part, opcodes_text}
 use Rattle.meta_table_text.specs.TableText.{table_text}
-use Rattle.meta_cursor.proofs.Reading.{all_first, all_behind}
+use Rattle.meta_table_reader.proofs.ItemsRead.{all_first, all_behind}
 use Rattle.meta_table_reader.specs.Readable.{Reads}
 use Rattle.meta_table_reader.proofs.ShownTables.{tables_shown}
 use Rattle.meta_table_reader.proofs.OpcodeTextParts.{digit, digit_at, one_digit}

@@ -4,8 +4,8 @@ use Rattle.std.specs.List.{flat_map}
 use Rattle.std.proofs.lemmas.Bool.{and_from}
 use Rattle.meta_types.specs.Name.{IsName}
 use Rattle.meta_table_text.specs.GroupItems.{template_text}
-use Rattle.meta_cursor.specs.Spans.{is_line}
-use Rattle.meta_cursor.proofs.Lacking.{line_behind}
+use Rattle.meta_table_reader.specs.Spans.{is_line}
+use Rattle.meta_table_reader.proofs.Lacking.{line_behind}
 use Rattle.meta_table_reader.proofs.SetLines.{are_lines}
 use Rattle.meta_table_reader.proofs.NameBytes.{name_lacks_end}
 

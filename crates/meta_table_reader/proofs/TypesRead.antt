@@ -8,7 +8,7 @@ use Rattle.meta_types.specs.TypeParts.{TypeParts, IsType, number_of, name_of}
 use Rattle.meta_types.specs.TypeText.{rust_name_of}
 use Rattle.meta_types.proofs.AllTypes.{at_all, at_all_types}
 use Rattle.meta_table_text.specs.ConstraintText.{type_numbered, type_text}
-use Rattle.meta_cursor.specs.Spans.{lacks}
+use Rattle.meta_table_reader.specs.Spans.{lacks}
 use Rattle.meta_table_reader.specs.Words.{small_letter}
 
 abbrev pub capitals : TypeParts → List ℕ

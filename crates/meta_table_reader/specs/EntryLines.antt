@@ -2,7 +2,7 @@
 --     control_lines offset       on a control whose type set has this place
 --     second_lines v offset      on a second control, in this version
 use Rattle.std.specs.Prelude.{ℕ, ◌==◌, if◌then◌else◌}
-use Rattle.meta_meaning.specs.Tables.{no_type_set}
+use Rattle.meta_inst.specs.Tables.{no_type_set}
 use Rattle.meta_table_text.specs.declared.version.Version.{Version}
 use Rattle.meta_table_text.specs.declared.version.Version.TheVariants.{One, Two, Three}
 

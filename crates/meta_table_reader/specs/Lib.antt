@@ -1,3 +1,4 @@
+pub mod Spans
 pub mod Shown
 pub mod Words
 pub mod Some

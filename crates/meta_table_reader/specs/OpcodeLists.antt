@@ -1,10 +1,10 @@
 -- The lists of which the tables of an instruction set are made, but for the slots.
 use Rattle.std.specs.Prelude.{◌≡◌, ℕ, List, map}
 use Rattle.meta_typevar.specs.declared.masks.Masks.{Masks}
-use Rattle.meta_meaning.specs.Tables.{TableContents}
-use Rattle.meta_opcode_tables.specs.declared.constraint.Constraint.{Constraint}
-use Rattle.meta_opcode_tables.specs.declared.constraint.OpcodeConstraints.{OpcodeConstraints}
-use Rattle.meta_opcode_tables.specs.Constraint.{number_constraint_of, entry_of}
+use Rattle.meta_inst.specs.Tables.{TableContents}
+use Rattle.meta_gen.specs.declared.constraint.Constraint.{Constraint}
+use Rattle.meta_gen.specs.declared.constraint.OpcodeConstraints.{OpcodeConstraints}
+use Rattle.meta_gen.specs.Constraint.{number_constraint_of, entry_of}
 
 -- the tables have these lists
 pub record HaveOpcodeLists (t : TableContents) (opcode_names format_names : List (List ℕ)) (sets : List Masks)

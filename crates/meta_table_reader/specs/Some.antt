@@ -2,7 +2,7 @@
 use Rattle.std.specs.Prelude.{ℕ, ◌≤◌, List, length}
 use Rattle.std.proofs.Common.{arith}
 use Rattle.meta_typevar.specs.declared.masks.Masks.{Masks}
-use Rattle.meta_meaning.specs.Tables.{NumberConstraint}
+use Rattle.meta_inst.specs.Tables.{NumberConstraint}
 use Rattle.meta_setting_tables.specs.declared.descriptor.Descriptor.{Descriptor}
 use Rattle.meta_table_text.specs.GroupItems.{enumerator_text, descriptor_block, descriptor_text}
 use Rattle.meta_table_text.specs.TypeSetText.{mask_lines, set_block}

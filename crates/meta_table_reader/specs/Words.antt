@@ -4,7 +4,7 @@
 --     ends_marked word       its word ends in the mark of a second control
 use Rattle.std.specs.Prelude.{ℕ, ◌==◌, ⊤, Bool, false, List, [], ◌∷◌, if◌then◌else◌}
 use Rattle.std.specs.Char.{to_ascii_lowercase}
-use Rattle.meta_meaning.specs.Tables.{NumberConstraint, ConcreteNumber, FreeOf, SameNumber, ByNumber}
+use Rattle.meta_inst.specs.Tables.{NumberConstraint, ConcreteNumber, FreeOf, SameNumber, ByNumber}
 
 -- the byte in the name of a type, by that in its name in Rust source: a capital becomes small, but for the `N` of a dynamic vector
 abbrev pub small_letter : ℕ → ℕ

@@ -1,8 +1,8 @@
-ghost use Rattle.std.specs.Prelude.{◌≡◌, ◌↔◌, ◌<◌, ◌^◌, ℕ, false, IsTrue, List, ◌++◌, IfOk, map};
+ghost use Rattle.std.specs.Prelude.{◌≡◌, ℕ, false, List, ◌++◌, IfOk, map};
 ghost use Rattle.std.specs.Char.{to_ascii_uppercase};
 ghost use Rattle.meta_types.specs.TypeParts.{TypeParts, IsType, number_of, name_of};
-ghost use Rattle.meta_meaning.specs.Tables.{NumberConstraint, ConcreteNumber, FreeOf};
-ghost use Rattle.meta_opcode_tables.specs.Constraint.{number_constraint_of};
+ghost use Rattle.meta_inst.specs.Tables.{NumberConstraint, ConcreteNumber};
+ghost use Rattle.meta_gen.specs.Constraint.{number_constraint_of};
 ghost use Rattle.meta_inst.specs.Which.{Which as Control};
 ghost use Rattle.meta_inst.specs.Controls.{which_of};
 ghost use Rattle.meta_table_text.specs.ConstraintText.{control_mark, constraint_text, constraint_line};
@@ -10,8 +10,8 @@ ghost use Rattle.meta_types.specs.TypeNumber.{IsTypeNumber};
 ghost use Rattle.meta_table_reader.specs.Shown.{IsShownConstraint};
 ghost use Rattle.meta_table_reader.specs.Words.{small_letter, IsOfControl, ends_marked};
 
+use super::cursor::Cursor;
 use super::item::Item;
-use meta_cursor::Cursor;
 use meta_gen::{Constraint, Demand, Which};
 use meta_types::{DerivedFunc, ValueType, names_differ};
 use std::alloc::{AllocError, Global};
@@ -26,7 +26,6 @@ fn small_letter(c: u8) -> u8
     if c == b'N' { c } else { c.to_ascii_lowercase() }
 }
 
-/// The name of a type, from its name in Rust source.
 fn small_name(alloc: Global, name: &[u8]) -> Result<Vec<u8>, AllocError>
     ensures { IfOk result (λ v. v.items ≡ map small_letter name.now) }
 {
@@ -56,28 +55,11 @@ fn concrete(alloc: Global, cursor: &mut Cursor) -> Result<Constraint, AllocError
     Ok(Constraint::Concrete(number))
 }
 
-/// Reads the line of a constraint that names a type set.
-fn free(cursor: &mut Cursor) -> Constraint
-    ensures { (j : ℕ) (rest : List ℕ) → j < 2 ^ 16 → cursor.old ≡ constraint_line (FreeOf j) ++ rest
-        → (number_constraint_of result ≡ FreeOf j) × (cursor.new ≡ rest) }
-{
-    let set = cursor.number_u16("    OperandConstraint::Free(", b')');
-    cursor.pass("),\n");
-    Constraint::Free(set)
-}
-
 /// The two parts of a word that names a constraint of a control: what stands before the mark, and the control that the mark stands for.
 #[derive(Clone, Copy)]
 struct Word<'t> {
     name: &'t [u8],
     which: Which,
-}
-
-/// Whether the byte is the mark of a second control.
-fn is_mark(byte: u8) -> bool
-    ensures { IsTrue result ↔ (byte ≡ 50) }
-{
-    byte == b'2'
 }
 
 fn split_mark(word: &[u8]) -> Word<'_>
@@ -90,7 +72,8 @@ fn split_mark(word: &[u8]) -> Word<'_>
             which: Which::First,
         };
     };
-    if is_mark(*last) {
+    let mark = *last;
+    if mark == b'2' {
         return Word {
             name,
             which: Which::Second,
@@ -114,17 +97,6 @@ fn constraint_named(word: &[u8]) -> Constraint
     }
 }
 
-/// Reads the line of a constraint of a control.
-fn of_control(cursor: &mut Cursor) -> Constraint
-    ensures { (n : NumberConstraint) (rest : List ℕ) → IsOfControl n → cursor.old ≡ constraint_line n ++ rest
-        → (number_constraint_of result ≡ n) × (cursor.new ≡ rest) }
-{
-    let word = cursor.until("    OperandConstraint::", b',');
-    cursor.pass(",\n");
-    constraint_named(word)
-}
-
-/// Reads the line of a constraint.
 fn constraint(alloc: Global, cursor: &mut Cursor) -> Result<Constraint, AllocError>
     ensures { IfOk result (λ c. (n : NumberConstraint) (rest : List ℕ) → IsShownConstraint n
         → cursor.old ≡ constraint_line n ++ rest → (number_constraint_of c ≡ n) × (cursor.new ≡ rest)) }
@@ -134,13 +106,17 @@ fn constraint(alloc: Global, cursor: &mut Cursor) -> Result<Constraint, AllocErr
         return concrete(alloc, cursor);
     }
     if form == b'F' {
-        return Ok(free(cursor));
+        let set = cursor.number_u16("    OperandConstraint::Free(", b')');
+        cursor.pass("),\n");
+        return Ok(Constraint::Free(set));
     }
-    Ok(of_control(cursor))
+    let word = cursor.until("    OperandConstraint::", b',');
+    cursor.pass(",\n");
+    Ok(constraint_named(word))
 }
 
 impl Item for Constraint {
-    ghost use Rattle.meta_opcode_tables.specs.Constraint.{number_constraint_of};
+    ghost use Rattle.meta_gen.specs.Constraint.{number_constraint_of};
     ghost use Rattle.meta_table_text.specs.ConstraintText.{constraint_line};
     ghost use Rattle.meta_table_reader.specs.Shown.{IsShownConstraint};
     ghost use Rattle.meta_table_reader.specs.Some.{constraint_some};

@@ -1,18 +1,18 @@
 ghost use Rattle.std.specs.Prelude.{◌≡◌, ◌≤◌, ◌<◌, ◌^◌, ℕ, List, ◌++◌, IfOk, All, length, map, codes};
 ghost use Rattle.std.specs.Fmt.{decimal};
-ghost use Rattle.meta_meaning.specs.Tables.{OpcodeNumbers, TableContents};
-ghost use Rattle.meta_opcode_tables.specs.Constraint.{entry_of};
+ghost use Rattle.meta_inst.specs.Tables.{OpcodeNumbers, TableContents};
+ghost use Rattle.meta_gen.specs.Constraint.{entry_of};
 ghost use Rattle.meta_table_text.specs.Version.{offset_shown};
 ghost use Rattle.meta_table_text.specs.OpcodeText.{each_opcode, second_line, entry_block, opcode_block};
 ghost use Rattle.meta_table_text.specs.TableText.{entries_part};
-ghost use Rattle.meta_table_reader.specs.EntryLines.{control_lines, second_lines};
+ghost use Rattle.meta_table_reader.specs.EntryLines.{control_lines};
 ghost use Rattle.meta_table_reader.specs.Shown.{IsShownOffset, IsShownSecond, IsShownEntry, IsShownConstraint, AreShownOpcodes};
 ghost use Rattle.meta_types.specs.Name.{IsName};
 
-use super::lists::{list_count, skip_list_end};
-use meta_cursor::Cursor;
+use super::cursor::Cursor;
+use super::item::list_count;
 use meta_gen::{NO_TYPE_SET, OpcodeConstraints};
-use meta_table_text::{TableList, Version};
+use meta_table_text::{LIST_END, TableList, Version};
 use std::alloc::{AllocError, Global};
 
 /// The place of a type set, or no type set, from the number that the version has for it.
@@ -65,17 +65,6 @@ fn control_lines(offset: u16) -> usize
     if offset == NO_TYPE_SET { 0 } else { 1 }
 }
 
-/// How many lines of comment there are on a second control.
-fn second_lines(version: Version, offset: u16) -> usize
-    ensures value { result ≡ second_lines version offset }
-    ensures few { result ≤ 1 }
-{
-    match version {
-        Version::One => 0,
-        Version::Two | Version::Three => control_lines(offset),
-    }
-}
-
 /// Reads the fields of an opcode's block. It skips the comments, which repeat them, and the last two lines.
 fn entry(cursor: &mut Cursor, version: Version) -> OpcodeConstraints
     ensures { (t : TableContents) (op : ℕ) (e : OpcodeNumbers) (rest : List ℕ) → All IsName t.names
@@ -87,7 +76,7 @@ fn entry(cursor: &mut Cursor, version: Version) -> OpcodeConstraints
     let second_offset = second_place(cursor, version);
     let constraint_offset = place(cursor, "        constraint_offset: ");
     let control = control_lines(typeset_offset);
-    let second = second_lines(version, second_offset);
+    let second = control_lines(second_offset);
     cursor.skip_lines(4 + control + second);
     OpcodeConstraints {
         flags,
@@ -97,7 +86,6 @@ fn entry(cursor: &mut Cursor, version: Version) -> OpcodeConstraints
     }
 }
 
-/// Reads the blocks of `count` opcodes.
 fn blocks(
     alloc: Global,
     cursor: &mut Cursor,
@@ -126,6 +114,6 @@ pub(crate) fn entries(
 {
     let count = list_count(cursor, TableList::Entries);
     let entries = blocks(alloc, cursor, version, count)?;
-    skip_list_end(cursor);
+    cursor.pass(LIST_END);
     Ok(entries)
 }

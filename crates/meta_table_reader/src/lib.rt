@@ -7,18 +7,15 @@
 #![tactic(auto)]
 
 mod constraints;
+mod cursor;
 mod entries;
 mod group_items;
 mod group_lists;
 mod groups;
 mod item;
 mod laws;
-mod lists;
-mod opcode_names;
 mod opcode_parts;
 mod reading;
-mod template;
-mod type_sets;
 
 pub use laws::{a_text_reads_as_one, a_text_tells_its_tables};
 pub use reading::{TextError, read_tables, refused};

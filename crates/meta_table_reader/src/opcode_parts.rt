@@ -1,19 +1,18 @@
-ghost use Rattle.std.specs.Prelude.{◌≡◌, ◌<◌, ◌^◌, ℕ, List, ◌++◌, IfOk, All, length, map};
+ghost use Rattle.std.specs.Prelude.{◌≡◌, ◌<◌, ◌^◌, ℕ, List, ◌++◌, IfOk, All, length};
 ghost use Rattle.meta_types.specs.Name.{IsName};
-ghost use Rattle.meta_meaning.specs.Tables.{TableContents};
-ghost use Rattle.meta_opcode_tables.specs.Constraint.{number_constraint_of};
+ghost use Rattle.meta_inst.specs.Tables.{TableContents};
 ghost use Rattle.meta_table_text.specs.declared.version.Version.{Version};
-ghost use Rattle.meta_table_text.specs.TableText.{version_line, slots_part, sets_list, sets_part, constraints_part, opcodes_text};
+ghost use Rattle.meta_table_text.specs.OpcodeText.{each_opcode, format_line};
+ghost use Rattle.meta_table_text.specs.TableText.{version_line, formats_part, slots_part, sets_part, constraints_part, opcodes_text};
 ghost use Rattle.meta_table_reader.specs.OpcodeLists.{HaveOpcodeLists};
-ghost use Rattle.meta_table_reader.specs.Shown.{AreShownLists, AreShownOpcodes};
+ghost use Rattle.meta_table_reader.specs.Shown.{AreNamed, AreShownLists, AreShownOpcodes};
 
+use super::cursor::Cursor;
 use super::entries::entries;
-use super::item::items;
-use super::lists::{list_count, skip_list_end};
-use super::opcode_names::{OpcodeNames, opcode_names};
-use meta_cursor::Cursor;
+use super::item::{Item, list_count, list_of};
 use meta_gen::{Constraint, OpcodeConstraints};
-use meta_table_text::{TableList, Version};
+use meta_table_text::{LIST_END, TableList, Version};
+use meta_types::Text;
 use meta_typevar::Masks;
 use std::alloc::{AllocError, Global};
 
@@ -37,6 +36,37 @@ pub(crate) fn version_of(cursor: &Cursor) -> Version
     Version::Three
 }
 
+#[derive(Drop)]
+pub(crate) struct OpcodeNames {
+    pub(crate) names: Vec<Text>,
+    pub(crate) formats: Vec<Text>,
+}
+
+fn format_lines(alloc: Global, cursor: &mut Cursor, count: usize) -> Result<OpcodeNames, AllocError>
+    ensures { IfOk result (λ r. (t : TableContents) (rest : List ℕ) → All IsName t.names → All IsName t.formats
+        → count ≡ length t.names → count ≡ length t.formats → cursor.old ≡ each_opcode (format_line t) count ++ rest
+        → (r.names.items ≡ t.names) × (r.formats.items ≡ t.formats) × (cursor.new ≡ rest)) }
+{
+    let mut names = Vec::new(alloc);
+    let mut formats = Vec::new(alloc);
+    for _ in 0..cursor.len().min(count) {
+        formats.push(cursor.text(alloc, "    InstructionFormat::", b',')?)?;
+        names.push(cursor.text(alloc, ", // ", b'\n')?)?;
+        cursor.pass("\n");
+    }
+    Ok(OpcodeNames { names, formats })
+}
+
+fn opcode_names(alloc: Global, cursor: &mut Cursor) -> Result<OpcodeNames, AllocError>
+    ensures { IfOk result (λ r. (t : TableContents) (rest : List ℕ) → AreNamed t → cursor.old ≡ formats_part t ++ rest
+        → (r.names.items ≡ t.names) × (r.formats.items ≡ t.formats) × (cursor.new ≡ rest)) }
+{
+    let count = list_count(cursor, TableList::Formats);
+    let names = format_lines(alloc, cursor, count)?;
+    cursor.pass(LIST_END);
+    Ok(names)
+}
+
 /// Skips the list of the slots of the names, which follow from the names.
 fn skip_slots(cursor: &mut Cursor)
     ensures { (t : TableContents) (rest : List ℕ) → All IsName t.names → length t.opcode_slots < 2 ^ 64
@@ -44,18 +74,40 @@ fn skip_slots(cursor: &mut Cursor)
 {
     let count = list_count(cursor, TableList::OpcodeSlots);
     cursor.skip_lines(count);
-    skip_list_end(cursor);
+    cursor.pass(LIST_END);
 }
 
-/// Reads the list of the type sets.
-fn sets_list(alloc: Global, cursor: &mut Cursor) -> Result<Vec<Masks>, AllocError>
-    ensures { IfOk result (λ v. (t : TableContents) (rest : List ℕ) → AreShownLists t
-        → cursor.old ≡ sets_list t ++ rest → (v.items ≡ t.type_sets) × (cursor.new ≡ rest)) }
-{
-    let count = list_count(cursor, TableList::TypeSets);
-    let sets = items::<Masks>(alloc, cursor, count)?;
-    skip_list_end(cursor);
-    Ok(sets)
+impl Item for Masks {
+    ghost use Rattle.meta_table_text.specs.TypeSetText.{set_block};
+    ghost use Rattle.meta_table_reader.specs.Shown.{AreShownMasks};
+    ghost use Rattle.meta_table_reader.specs.Some.{set_some};
+
+    ghost text = { set_block };
+
+    ghost IsShown = { AreShownMasks };
+
+    fn read(_alloc: Global, cursor: &mut Cursor) -> Result<Masks, AllocError> {
+        let lanes = cursor.number_u16(
+            "    ir::instructions::ValueTypeSet {\n        lanes: ScalarBitSet::<u16>(",
+            b')',
+        );
+        let dynamic_lanes = cursor.number_u16(
+            "),\n        dynamic_lanes: ScalarBitSet::<u16>(",
+            b')',
+        );
+        let ints = cursor.number_u8("),\n        ints: ScalarBitSet::<u8>(", b')');
+        let floats = cursor.number_u8("),\n        floats: ScalarBitSet::<u8>(", b')');
+        cursor.pass("),\n");
+        cursor.skip_lines(3);
+        Ok(Masks {
+            lanes,
+            dynamic_lanes,
+            ints,
+            floats,
+        })
+    }
+
+    ghost some = { set_some };
 }
 
 /// Reads the list of the type sets. It is left out if there are no type sets: then the list of the constraints comes next.
@@ -65,23 +117,11 @@ fn type_sets(alloc: Global, cursor: &mut Cursor) -> Result<Vec<Masks>, AllocErro
 {
     let title = cursor.byte_at(TITLE_AT);
     if title == b'v' {
-        return sets_list(alloc, cursor);
+        return list_of::<Masks>(alloc, cursor, TableList::TypeSets);
     }
     Ok(Vec::new(alloc))
 }
 
-/// Reads the list of the operand constraints.
-fn operand_constraints(alloc: Global, cursor: &mut Cursor) -> Result<Vec<Constraint>, AllocError>
-    ensures { IfOk result (λ v. (t : TableContents) (rest : List ℕ) → AreShownLists t
-        → cursor.old ≡ constraints_part t ++ rest → (map number_constraint_of v.items ≡ t.operand_constraints) × (cursor.new ≡ rest)) }
-{
-    let count = list_count(cursor, TableList::Constraints);
-    let constraints = items::<Constraint>(alloc, cursor, count)?;
-    skip_list_end(cursor);
-    Ok(constraints)
-}
-
-/// What is read of the tables of an instruction set.
 #[derive(Drop)]
 pub(crate) struct OpcodeParts {
     pub(crate) names: OpcodeNames,
@@ -90,7 +130,6 @@ pub(crate) struct OpcodeParts {
     pub(crate) constraints: Vec<OpcodeConstraints>,
 }
 
-/// Reads the text of the tables of an instruction set.
 pub(crate) fn opcode_parts(
     alloc: Global,
     cursor: &mut Cursor,
@@ -105,7 +144,7 @@ pub(crate) fn opcode_parts(
     let names = opcode_names(alloc, cursor)?;
     skip_slots(cursor);
     let type_sets = type_sets(alloc, cursor)?;
-    let operand_constraints = operand_constraints(alloc, cursor)?;
+    let operand_constraints = list_of::<Constraint>(alloc, cursor, TableList::Constraints)?;
     let constraints = entries(alloc, cursor, version)?;
     Ok(OpcodeParts {
         names,

@@ -1,4 +1,4 @@
-ghost use Rattle.std.specs.Prelude.{◌≡◌, ◌↔◌, IfOk, IfSome, IfNone, IsErrOf, IsTrue, string_bytes};
+ghost use Rattle.std.specs.Prelude.{◌≡◌, IfOk, IfSome, IfNone, IsErrOf, string_bytes};
 ghost use Rattle.meta_gen.specs.Parts.{HasParts};
 ghost use Rattle.meta_gen.specs.WholeTables.{WholeTables};
 ghost use Rattle.meta_table_text.specs.Fits.{Fits};
@@ -6,9 +6,9 @@ ghost use Rattle.meta_table_text.specs.TableText.{table_text};
 ghost use Rattle.meta_table_reader.specs.Readable.{AreShown, IsReadIn, Reads, refused_line};
 ghost use Rattle.meta_table_reader.specs.declared.reading.TextError.TheVariants.{OutOfMemory};
 
+use super::cursor::Cursor;
 use super::groups::groups;
 use super::opcode_parts::{opcode_parts, version_of};
-use meta_cursor::Cursor;
 use meta_gen::{TableParts, Tables, one_table_has_all_parts, tables_from_parts};
 use meta_table_text::{Version, fits, table_text};
 use std::alloc::{AllocError, Global};
@@ -43,22 +43,6 @@ fn table_parts(alloc: Global, text: &[u8], version: Version) -> Result<TablePart
     })
 }
 
-/// Whether the text is that of the tables in the version, and they fit it.
-fn is_text_of(
-    alloc: Global,
-    version: Version,
-    text: &[u8],
-    tables: &Tables,
-) -> Result<bool, AllocError>
-    ensures { IfOk result (λ is. IsTrue is ↔ (Fits version tables.now × (text.now ≡ table_text version tables.now))) }
-{
-    if !fits(version, tables) {
-        return Ok(false);
-    }
-    let written = table_text(alloc, version, tables)?;
-    Ok(written.as_bytes() == text)
-}
-
 /// The tables, if they fit the version and the text is theirs in it.
 fn accepted(
     alloc: Global,
@@ -69,7 +53,11 @@ fn accepted(
     ensures some { IfOk result (λ o. IfSome o (λ t. (t ≡ tables) × Fits version tables × (text.now ≡ table_text version tables))) }
     ensures none { IfOk result (λ o. IfNone o (Fits version tables → text.now ≡ table_text version tables → ⊥)) }
 {
-    let is_text = is_text_of(alloc, version, text, &tables)?;
+    if !fits(version, &tables) {
+        return Ok(None);
+    }
+    let written = table_text(alloc, version, &tables)?;
+    let is_text = written.as_bytes() == text;
     if !is_text {
         return Ok(None);
     }

@@ -5,7 +5,7 @@ use Rattle.std.specs.List.{HoldsAt}
 use Rattle.std.specs.Option.{option_map}
 use Rattle.std.proofs.lemmas.Bool.{ne_eqb}
 use Rattle.std.proofs.lemmas.Option.{slice_get_past, slice_get_read}
-use Rattle.meta_meaning.specs.Tables.{TableContents, OpcodeNumbers, no_type_set}
+use Rattle.meta_inst.specs.Tables.{TableContents, OpcodeNumbers, no_type_set}
 use Rattle.meta_table_text.specs.declared.version.Version.{Version}
 use Rattle.meta_table_text.specs.declared.version.Version.TheVariants.{One, Two, Three}
 use Rattle.meta_table_text.specs.TypeSetText.{set_or_nothing, set_comment}

@@ -1,5 +1,5 @@
 -- Texts that are written part by part, and what is left of them.
-use Rattle.std.proofs.Common.{◌≡◌, ℕ, ◌≤◌, true, false, cond, List, [], ◌∷◌, ◌++◌, append_assoc, append-nil, length, map, drop, flat_map}
+use Rattle.std.proofs.Common.{◌≡◌, ℕ, ◌≤◌, true, false, cond, List, [], ◌∷◌, ◌++◌, append-nil, length, map, drop, flat_map}
 use Rattle.std.proofs.Common.{Bor, refl, sym, ap, ◌∙◌, codes}
 use Rattle.std.specs.List.{join_by}
 use Rattle.std.proofs.lemmas.Bool.{cond-true, cond-false}
@@ -16,22 +16,6 @@ use Rattle.meta_table_text.specs.GroupText.{presets_in}
 -- nothing is left after the end
 pub none_left : {X : Type 0} (xs : List X) (i : ℕ) → length xs ≤ i → drop i xs ≡ []
 none_left xs i past = drop_past xs i (slice_get_past xs i past)
-
--- what was begun is written in full
-pub all_is : (start all now left : List ℕ) → now ++ left ≡ start ++ all → left ≡ [] → now ≡ start ++ all
-all_is start all now left so_far none = sym (append-nil now) ∙ ap (λ t. now ++ t) (sym none) ∙ so_far
-
--- what was begun is written in full, and then more
-pub all_written : (start all now left tail new : List ℕ) → now ++ left ≡ start ++ all → left ≡ [] → new ≡ now ++ tail
-    → new ≡ start ++ (all ++ tail)
-all_written start all now left tail new so_far none more =
-    more ∙ ap (λ t. t ++ tail) (sym (append-nil now) ∙ ap (λ t. now ++ t) (sym none) ∙ so_far) ∙ append_assoc start all tail
-
--- the same after a head
-pub list_written : (start head opened all now left tail new : List ℕ) → opened ≡ start ++ head → now ++ left ≡ opened ++ all → left ≡ []
-    → new ≡ now ++ tail → new ≡ start ++ (head ++ (all ++ tail))
-list_written start head opened all now left tail new begun so_far none more =
-    all_written opened all now left tail new so_far none more ∙ ap (λ t. t ++ (all ++ tail)) begun ∙ append_assoc start head (all ++ tail)
 
 -- names that are joined are parted by commas
 pub names_joined : (names : List (Bor (List ℕ))) → join_by (λ (n : Bor (List ℕ)). n.now) (codes ", ") names

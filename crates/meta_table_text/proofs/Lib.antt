@@ -1,10 +1,9 @@
 -- texts, piece by piece
-mod Chains
 mod Places
+mod Lists
 -- types by their numbers
 mod TypeNames
 -- constraints
-mod Parts
 mod GroupDigits
 mod GroupLists
 mod Comments

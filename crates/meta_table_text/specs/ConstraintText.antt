@@ -10,7 +10,7 @@ use Rattle.meta_types.specs.TypeText.{rust_name_of}
 use Rattle.meta_types.specs.AllTypes.{all_types}
 use Rattle.meta_types.specs.DerivedFunc.{camel_function_name}
 use Rattle.meta_inst.specs.Which.{Which, First, Second}
-use Rattle.meta_meaning.specs.Tables.{NumberConstraint, ConcreteNumber, FreeOf, SameNumber, ByNumber}
+use Rattle.meta_inst.specs.Tables.{NumberConstraint, ConcreteNumber, FreeOf, SameNumber, ByNumber}
 use Rattle.meta_text.specs.Lines.{at, text_of}
 use Rattle.meta_table_text.specs.TypeSetText.{parted}
 
@@ -38,20 +38,6 @@ constraint_text (ConcreteNumber n) = codes "Concrete(" ++ (type_text n ++ codes 
 constraint_text (FreeOf j) = codes "Free(" ++ (decimal j ++ codes ")")
 constraint_text (SameNumber which) = codes "Same" ++ control_mark which
 constraint_text (ByNumber which f) = camel_function_name f ++ control_mark which
-
--- the name of its variant, but for the mark of a second control
-abbrev pub variant_name : NumberConstraint → List ℕ
-variant_name (ConcreteNumber n) = codes "Concrete"
-variant_name (FreeOf j) = codes "Free"
-variant_name (SameNumber which) = codes "Same"
-variant_name (ByNumber which f) = camel_function_name f
-
--- what comes after that: a type, a type set by its place, or the mark of a second control
-abbrev pub variant_fields : NumberConstraint → List ℕ
-variant_fields (ConcreteNumber n) = codes "(" ++ (type_text n ++ codes ")")
-variant_fields (FreeOf j) = codes "(" ++ (decimal j ++ codes ")")
-variant_fields (SameNumber which) = control_mark which
-variant_fields (ByNumber which f) = control_mark which
 
 -- the line of a constraint
 unfoldable pub constraint_line : NumberConstraint → List ℕ

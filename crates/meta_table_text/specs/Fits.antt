@@ -3,8 +3,8 @@
 use Rattle.std.specs.Prelude.{◌≡◌, ℕ, ◌≤◌, ⊤, Bool, true, false, IsTrue, length, Some}
 use Rattle.std.specs.List.{list_all}
 use Rattle.meta_inst.specs.Which.{Which, First, Second}
-use Rattle.meta_meaning.specs.Tables.{TableContents, OpcodeNumbers, NumberConstraint, ConcreteNumber, FreeOf, SameNumber, ByNumber}
-use Rattle.meta_meaning.specs.Tables.{at_opcode, no_type_set}
+use Rattle.meta_inst.specs.Tables.{TableContents, OpcodeNumbers, NumberConstraint, ConcreteNumber, FreeOf, SameNumber, ByNumber}
+use Rattle.meta_inst.specs.Tables.{at_opcode, no_type_set}
 use Rattle.meta_gen.specs.WholeTables.{WholeTables}
 use Rattle.meta_table_text.specs.declared.version.Version.{Version}
 use Rattle.meta_table_text.specs.declared.version.Version.TheVariants.{One, Two, Three}

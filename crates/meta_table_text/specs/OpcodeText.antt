@@ -7,7 +7,7 @@ use Rattle.std.specs.Prelude.{ℕ, zero, suc, ◌+◌, ◌/◌, ◌%◌, ◌==�
 use Rattle.std.specs.Prelude.{Some, if◌then◌else◌, codes}
 use Rattle.std.specs.Fmt.{decimal, digit_glyph}
 use Rattle.meta_types.specs.CamelCase.{camel_case_of}
-use Rattle.meta_meaning.specs.Tables.{TableContents, OpcodeNumbers, NumberConstraint, at_opcode, no_type_set, result_count, value_count}
+use Rattle.meta_inst.specs.Tables.{TableContents, OpcodeNumbers, NumberConstraint, at_opcode, no_type_set, result_count, value_count}
 use Rattle.meta_text.specs.Lines.{at, text_of}
 use Rattle.meta_table_text.specs.declared.version.Version.{Version}
 use Rattle.meta_table_text.specs.declared.version.Version.TheVariants.{One, Two, Three}

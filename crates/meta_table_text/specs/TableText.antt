@@ -4,7 +4,7 @@
 use Rattle.std.specs.Prelude.{ℕ, ◌==◌, List, [], ◌∷◌, ◌++◌, length, if◌then◌else◌, codes}
 use Rattle.std.specs.List.{flat_map}
 use Rattle.std.specs.Fmt.{decimal}
-use Rattle.meta_meaning.specs.Tables.{TableContents}
+use Rattle.meta_inst.specs.Tables.{TableContents}
 use Rattle.meta_gen.specs.WholeTables.{WholeTables}
 use Rattle.meta_text.specs.Lines.{at, text_of}
 use Rattle.meta_table_text.specs.declared.version.Version.{Version}

@@ -3,7 +3,7 @@
 --     none_of v              how it shows that there is no type set
 --     offset_shown v offset  how it shows the place of a type set
 use Rattle.std.specs.Prelude.{ℕ, ◌==◌, if◌then◌else◌}
-use Rattle.meta_meaning.specs.Tables.{no_type_set}
+use Rattle.meta_inst.specs.Tables.{no_type_set}
 use Rattle.meta_table_text.specs.declared.version.Version.{Version}
 use Rattle.meta_table_text.specs.declared.version.Version.TheVariants.{One, Two, Three}
 

@@ -1,7 +1,7 @@
 ghost use Rattle.std.specs.Prelude.{◌≡◌, ◌↔◌, IsTrue, map};
 ghost use Rattle.std.specs.List.{list_all};
 ghost use Rattle.meta_inst.specs.Controls.{which_of};
-ghost use Rattle.meta_opcode_tables.specs.Constraint.{number_constraint_of};
+ghost use Rattle.meta_gen.specs.Constraint.{number_constraint_of};
 ghost use Rattle.meta_table_text.specs.Fits.{IsSmall, LacksSecondSet, HasNoSecondSet, is_first, asks_of_no_second, Fits};
 
 use super::version::Version;
@@ -13,7 +13,6 @@ fn is_small(tables: &Tables) -> bool
     tables.opcode_count() <= 255 && tables.type_sets().len() <= 255
 }
 
-/// Whether the opcode has no type set of a second control.
 fn lacks_second_set(tables: &Tables, opcode: u16) -> bool
     ensures { IsTrue result ↔ LacksSecondSet tables.now.opcodes opcode }
 {
@@ -23,7 +22,6 @@ fn lacks_second_set(tables: &Tables, opcode: u16) -> bool
     }
 }
 
-/// Whether no opcode has a type set of a second control.
 fn has_no_second_set(tables: &Tables) -> bool
     ensures { IsTrue result ↔ HasNoSecondSet tables.now.opcodes }
 {
@@ -44,7 +42,6 @@ fn is_first(which: Which) -> bool
     }
 }
 
-/// Whether the constraint doesn't name the second control.
 fn asks_of_no_second(constraint: Constraint) -> bool
     ensures { result ≡ asks_of_no_second (number_constraint_of constraint) }
 {
@@ -56,7 +53,6 @@ fn asks_of_no_second(constraint: Constraint) -> bool
     }
 }
 
-/// Whether no constraint names the second control.
 fn all_ask_of_no_second(constraints: &[Constraint]) -> bool
     ensures { result ≡ list_all asks_of_no_second (map number_constraint_of constraints.now) }
 {

@@ -1,25 +1,9 @@
 ghost use Rattle.std.specs.Prelude.{◌≡◌, ◌++◌, OnOk, IfOk, string_bytes};
-ghost use Rattle.meta_table_text.specs.GroupItems.{hex_text, head_text, enumerator_text, descriptor_block, descriptor_text, slot_text};
-ghost use Rattle.meta_table_text.specs.GroupItems.{pair_text, comment_text, bytes_text, template_text};
+ghost use Rattle.meta_table_text.specs.GroupItems.{descriptor_text, slot_text, pair_text, hex_text, bytes_text, template_text};
 
 use meta_setting_tables::{Descriptor, Detail};
 use std::alloc::{AllocError, Global};
 use std::fmt;
-
-/// Adds the comment that the text of a group with this name begins with.
-#[tactic(auto, unfolding(crate::specs::GroupItems::head_text))]
-pub(crate) fn push_head(out: &mut String, name: &str) -> Result<(), AllocError>
-    ensures { OnOk result (string_bytes out.new ≡ string_bytes out.old ++ head_text name.now) }
-{
-    write!(out, "// Settings group {name}.\n")
-}
-
-#[tactic(auto, unfolding(crate::specs::GroupItems::enumerator_text))]
-pub(crate) fn push_enumerator(out: &mut String, name: &str) -> Result<(), AllocError>
-    ensures { OnOk result (string_bytes out.new ≡ string_bytes out.old ++ enumerator_text name.now) }
-{
-    write!(out, "    \"{name}\",\n")
-}
 
 /// The kind of an entry, with its numbers, as the text has it.
 #[derive(Clone, Copy)]
@@ -44,18 +28,12 @@ impl fmt::Display for DetailText {
     }
 }
 
-/// Adds the descriptor of an entry with this name, description, offset and detail.
 #[tactic(auto, unfolding(crate::specs::GroupItems::descriptor_block))]
-fn push_block(
-    out: &mut String,
-    name: &str,
-    description: &str,
-    offset: u32,
-    detail: Detail,
-) -> Result<(), AllocError>
-    ensures { OnOk result (string_bytes out.new ≡ string_bytes out.old ++ descriptor_block name.now description.now offset detail) }
+pub(crate) fn push_descriptor(out: &mut String, entry: &Descriptor) -> Result<(), AllocError>
+    ensures { OnOk result (string_bytes out.new ≡ string_bytes out.old ++ descriptor_text entry.now) }
 {
-    let detail = DetailText(detail);
+    let (name, description) = (entry.name.as_str(), entry.description.as_str());
+    let (offset, detail) = (entry.offset, DetailText(entry.detail));
     write!(
         out,
         "    detail::Descriptor {{
@@ -69,19 +47,6 @@ fn push_block(
     )
 }
 
-pub(crate) fn push_descriptor(out: &mut String, entry: &Descriptor) -> Result<(), AllocError>
-    ensures { OnOk result (string_bytes out.new ≡ string_bytes out.old ++ descriptor_text entry.now) }
-{
-    push_block(
-        out,
-        entry.name.as_str(),
-        entry.description.as_str(),
-        entry.offset,
-        entry.detail,
-    )
-}
-
-/// Adds a slot, which holds the number of an entry or is vacant.
 #[tactic(auto, unfolding(crate::specs::GroupItems::slot_text))]
 pub(crate) fn push_slot(out: &mut String, slot: Option<u16>) -> Result<(), AllocError>
     ensures { OnOk result (string_bytes out.new ≡ string_bytes out.old ++ slot_text slot) }
@@ -100,25 +65,16 @@ pub(crate) fn push_pair(out: &mut String, mask: u8) -> Result<(), AllocError>
     write!(out, "    (0b{mask:08b}, 0b{mask:08b}),\n")
 }
 
-/// Adds the comment of a preset with this name. `booleans` has the names of the booleans that it turns on, separated by a comma and a
-/// space.
-#[tactic(auto, unfolding(crate::specs::GroupItems::comment_text))]
-pub(crate) fn push_comment(out: &mut String, name: &str, booleans: &str) -> Result<(), AllocError>
-    ensures { OnOk result (string_bytes out.new ≡ string_bytes out.old ++ comment_text name.now booleans.now) }
-{
-    write!(out, "    // {name}: {booleans}\n")
-}
-
-/// Adds a byte as hexadecimal digits.
+/// Adds a byte as `0x` and two hexadecimal digits.
 #[tactic(auto, using(std::proofs::lemmas::Fmt::hex_byte))]
-fn push_hex(out: &mut String, byte: u8) -> Result<(), AllocError>
+pub(crate) fn push_hex(out: &mut String, byte: u8) -> Result<(), AllocError>
     ensures { OnOk result (string_bytes out.new ≡ string_bytes out.old ++ hex_text byte) }
 {
     write!(out, "0x{byte:02x}")
 }
 
 /// The text of bytes as hexadecimal digits, separated by a comma and a space.
-pub(crate) fn hex_bytes(alloc: Global, bytes: &[u8]) -> Result<String, AllocError>
+fn hex_bytes(alloc: Global, bytes: &[u8]) -> Result<String, AllocError>
     ensures { IfOk result (λ text. string_bytes text ≡ bytes_text bytes.now) }
 {
     let mut text = String::new(alloc);
@@ -133,11 +89,17 @@ pub(crate) fn hex_bytes(alloc: Global, bytes: &[u8]) -> Result<String, AllocErro
     Ok(text)
 }
 
-/// Adds the template of a group with this name. `defaults` has its default bytes as hexadecimal digits, separated by a comma and a space.
 #[tactic(auto, unfolding(crate::specs::GroupItems::template_text))]
-pub(crate) fn push_template(out: &mut String, name: &str, defaults: &str) -> Result<(), AllocError>
-    ensures { OnOk result (string_bytes out.new ≡ string_bytes out.old ++ template_text name.now defaults.now) }
+pub(crate) fn push_template(
+    alloc: Global,
+    out: &mut String,
+    name: &str,
+    defaults: &[u8],
+) -> Result<(), AllocError>
+    ensures { OnOk result (string_bytes out.new ≡ string_bytes out.old ++ template_text name.now (bytes_text defaults.now)) }
 {
+    let shown = hex_bytes(alloc, defaults)?;
+    let defaults = shown.as_str();
     write!(
         out,
         "static TEMPLATE: detail::Template = detail::Template {{

@@ -8,7 +8,6 @@ mod constraint_text;
 mod fitting;
 mod group_items;
 mod group_text;
-mod lines;
 mod opcode_block;
 mod opcode_lists;
 mod table_list;

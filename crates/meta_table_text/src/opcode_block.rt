@@ -1,12 +1,12 @@
 ghost use Rattle.std.specs.Prelude.{◌≡◌, ◌++◌, OnOk, IfOk, map, string_bytes};
-ghost use Rattle.meta_opcode_tables.specs.Constraint.{number_constraint_of, entry_of};
-ghost use Rattle.meta_opcode_tables.specs.Contents.{IsOpcode};
-ghost use Rattle.meta_table_text.specs.OpcodeText.{name_at, format_at, camel_at, hex_byte, flags_lines, place_line, second_line};
-ghost use Rattle.meta_table_text.specs.OpcodeText.{entry_fields, flags_comment, constraints_of, control_comment, second_comment};
-ghost use Rattle.meta_table_text.specs.OpcodeText.{entry_comments, entry_block, opcode_block};
+ghost use Rattle.meta_gen.specs.Constraint.{number_constraint_of, entry_of};
+ghost use Rattle.meta_gen.specs.Contents.{IsOpcode};
+ghost use Rattle.meta_table_text.specs.OpcodeText.{name_at, format_at, camel_at, place_line, second_line, entry_fields, flags_comment};
+ghost use Rattle.meta_table_text.specs.OpcodeText.{constraints_of, control_comment, entry_comments, opcode_block};
 
 use super::constraint_text::push_constraints_comment;
-use super::type_set_text::{push_block_end, push_set_comment};
+use super::group_items::push_hex;
+use super::type_set_text::push_set_comment;
 use super::version::Version;
 use meta_gen::{Constraint, NO_TYPE_SET, OpcodeConstraints, Tables, constraints_from};
 use meta_types::{Text, camel_case};
@@ -43,25 +43,6 @@ pub(crate) fn camel_of(alloc: Global, tables: &Tables, opcode: u16) -> Result<Te
     }
 }
 
-/// Adds a byte as two hexadecimal digits, with small letters.
-#[tactic(auto, using(std::proofs::lemmas::Fmt::hex_byte), unfolding(crate::specs::OpcodeText::hex_byte))]
-fn push_hex_byte(out: &mut String, byte: u8) -> Result<(), AllocError>
-    ensures { OnOk result (string_bytes out.new ≡ string_bytes out.old ++ hex_byte byte) }
-{
-    write!(out, "{byte:02x}")
-}
-
-/// Adds the first lines of a block, with the flags.
-#[tactic(auto, unfolding(crate::specs::OpcodeText::flags_lines))]
-fn push_flags(out: &mut String, flags: u8) -> Result<(), AllocError>
-    ensures { OnOk result (string_bytes out.new ≡ string_bytes out.old ++ flags_lines flags) }
-{
-    out.push_str("    OpcodeConstraints {\n        flags: 0x")?;
-    push_hex_byte(out, flags)?;
-    out.push_str(",\n")
-}
-
-/// Adds the line of a field whose value is a place.
 #[tactic(auto, unfolding(crate::specs::OpcodeText::place_line))]
 fn push_place(out: &mut String, field: &str, place: u16) -> Result<(), AllocError>
     ensures { OnOk result (string_bytes out.new ≡ string_bytes out.old ++ place_line field.now place) }
@@ -86,7 +67,6 @@ fn push_second(
     }
 }
 
-/// Adds the fields of the block of an entry.
 #[tactic(auto, unfolding(crate::specs::OpcodeText::entry_fields))]
 fn push_fields(
     out: &mut String,
@@ -95,13 +75,14 @@ fn push_fields(
 ) -> Result<(), AllocError>
     ensures { OnOk result (string_bytes out.new ≡ string_bytes out.old ++ entry_fields version (entry_of entry)) }
 {
-    push_flags(out, entry.flags)?;
+    out.push_str("    OpcodeConstraints {\n        flags: ")?;
+    push_hex(out, entry.flags)?;
+    out.push_str(",\n")?;
     push_place(out, "typeset_offset", version.shown(entry.typeset_offset))?;
     push_second(out, version, entry)?;
     push_place(out, "constraint_offset", entry.constraint_offset)
 }
 
-/// Adds the comment on the flags of the opcode that has this name in Rust source.
 #[tactic(auto, unfolding(crate::specs::OpcodeText::flags_comment))]
 fn push_flags_comment(
     out: &mut String,
@@ -145,25 +126,6 @@ fn push_control_comment(
     push_set_comment(out, about, tables.type_sets().get(offset as usize))
 }
 
-/// Adds the comment on the second control, if the version has it.
-#[tactic(auto, unfolding(crate::specs::OpcodeText::second_comment))]
-fn push_second_comment(
-    out: &mut String,
-    version: Version,
-    tables: &Tables,
-    entry: OpcodeConstraints,
-) -> Result<(), AllocError>
-    ensures { OnOk result (string_bytes out.new ≡ string_bytes out.old ++ second_comment version tables.now.opcodes (entry_of entry)) }
-{
-    match version {
-        Version::One => Ok(()),
-        Version::Two | Version::Three => {
-            push_control_comment(out, tables, "Second control over ", entry.second_offset)
-        }
-    }
-}
-
-/// Adds the comments of the block of an entry.
 #[tactic(auto, unfolding(crate::specs::OpcodeText::entry_comments))]
 fn push_comments(
     alloc: Global,
@@ -180,23 +142,12 @@ fn push_comments(
     push_flags_comment(out, name.as_str(), entry)?;
     push_constraints_comment(alloc, out, constraints_of(tables, entry))?;
     push_control_comment(out, tables, "Polymorphic over ", entry.typeset_offset)?;
-    push_second_comment(out, version, tables, entry)
-}
-
-#[tactic(auto, unfolding(crate::specs::OpcodeText::entry_block))]
-fn push_entry(
-    alloc: Global,
-    out: &mut String,
-    version: Version,
-    tables: &Tables,
-    opcode: u16,
-    entry: OpcodeConstraints,
-) -> Result<(), AllocError>
-    ensures { OnOk result (string_bytes out.new ≡ string_bytes out.old ++ entry_block version tables.now.opcodes opcode (entry_of entry)) }
-{
-    push_fields(out, version, entry)?;
-    push_comments(alloc, out, version, tables, opcode, entry)?;
-    push_block_end(out)
+    match version {
+        Version::One => Ok(()),
+        Version::Two | Version::Three => {
+            push_control_comment(out, tables, "Second control over ", entry.second_offset)
+        }
+    }
 }
 
 #[tactic(auto, unfolding(crate::specs::OpcodeText::opcode_block))]
@@ -210,8 +161,10 @@ pub(crate) fn push_opcode(
     ensures { IsOpcode tables.now.opcodes opcode
         → OnOk result (string_bytes out.new ≡ string_bytes out.old ++ opcode_block version tables.now.opcodes opcode) }
 {
-    match tables.constraints(opcode) {
-        Some(entry) => push_entry(alloc, out, version, tables, opcode, entry),
-        None => Ok(()),
-    }
+    let Some(entry) = tables.constraints(opcode) else {
+        return Ok(());
+    };
+    push_fields(out, version, entry)?;
+    push_comments(alloc, out, version, tables, opcode, entry)?;
+    out.push_str("    }\n    ,\n")
 }

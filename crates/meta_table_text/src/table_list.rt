@@ -1,5 +1,7 @@
-ghost use Rattle.std.specs.Prelude.{◌≡◌};
-ghost use Rattle.meta_table_text.specs.Lists.{title_of, head_of};
+ghost use Rattle.std.specs.Prelude.{◌≡◌, ◌++◌, OnOk, string_bytes};
+ghost use Rattle.meta_table_text.specs.Lists.{title_of, head_of, list_text};
+
+use std::alloc::AllocError;
 
 /// A list in the text of tables. The first five are lists of the instruction set, the others of a group of settings.
 #[derive(Clone, Copy, Debug, PartialEq, Eq)]
@@ -65,3 +67,20 @@ pub const BEHIND_COUNT: &str = "] = [\n";
 
 /// What comes after the last element of a list.
 pub const LIST_END: &str = "];\n";
+
+#[tactic(auto, unfolding(crate::specs::Lists::list_head))]
+pub(crate) fn push_list(
+    out: &mut String,
+    list: TableList,
+    count: usize,
+    lines: &str,
+) -> Result<(), AllocError>
+    ensures { OnOk result (string_bytes out.new ≡ string_bytes out.old ++ list_text list count lines.now) }
+{
+    let (title, head) = (list.title(), list.head());
+    write!(
+        out,
+        "{title}{head}{count}{}{lines}{}",
+        BEHIND_COUNT, LIST_END
+    )
+}

@@ -1,9 +1,8 @@
 ghost use Rattle.std.specs.Prelude.{◌≡◌, ◌++◌, ◌∷◌, [], ℕ, List, IfOk, OnOk, map, string_bytes};
 ghost use Rattle.std.specs.Fmt.{decimal};
 ghost use Rattle.std.specs.Option.{option_map};
-ghost use Rattle.meta_table_text.specs.TypeSetText.{parted_behind, held, members, part_of, masks_text, set_or_nothing, mask_lines};
-ghost use Rattle.meta_table_text.specs.TypeSetText.{set_comment, block_end, set_block};
-ghost use Rattle.meta_text.specs.Lines.{text_of};
+ghost use Rattle.meta_table_text.specs.TypeSetText.{parted_behind, held, members, part_of, masks_text, set_or_nothing, set_comment};
+ghost use Rattle.meta_table_text.specs.TypeSetText.{set_block};
 
 use meta_typevar::Masks;
 use std::alloc::AllocError;
@@ -63,7 +62,6 @@ fn push_part(out: &mut String, before: &str, mask: u16) -> Result<(), AllocError
     out.push_str("}")
 }
 
-/// Adds the text of a type set.
 #[tactic(auto, unfolding(crate::specs::TypeSetText::masks_text))]
 fn push_set_text(out: &mut String, masks: &Masks) -> Result<(), AllocError>
     ensures { OnOk result (string_bytes out.new ≡ string_bytes out.old ++ masks_text masks.now) }
@@ -76,25 +74,6 @@ fn push_set_text(out: &mut String, masks: &Masks) -> Result<(), AllocError>
     out.push_str(")")
 }
 
-/// Adds the lines of the four masks of a type set.
-#[tactic(auto, unfolding(crate::specs::TypeSetText::mask_lines))]
-fn push_masks(out: &mut String, masks: &Masks) -> Result<(), AllocError>
-    ensures { OnOk result (string_bytes out.new ≡ string_bytes out.old ++ text_of (mask_lines masks.now)) }
-{
-    let (lanes, dynamic_lanes) = (masks.lanes, masks.dynamic_lanes);
-    let (ints, floats) = (masks.ints, masks.floats);
-    write!(
-        out,
-        "    ir::instructions::ValueTypeSet {{
-        lanes: ScalarBitSet::<u16>({lanes}),
-        dynamic_lanes: ScalarBitSet::<u16>({dynamic_lanes}),
-        ints: ScalarBitSet::<u8>({ints}),
-        floats: ScalarBitSet::<u8>({floats}),
-"
-    )
-}
-
-/// Adds the text of a type set, if there is one.
 fn push_set_or_nothing(out: &mut String, masks: Option<&Masks>) -> Result<(), AllocError>
     ensures { OnOk result (string_bytes out.new ≡ string_bytes out.old ++ set_or_nothing (option_map (λ m. m.now) masks.entry)) }
 {
@@ -120,18 +99,21 @@ pub(crate) fn push_set_comment(
     out.push_str("\n")
 }
 
-#[tactic(auto, unfolding(crate::specs::TypeSetText::block_end))]
-pub(crate) fn push_block_end(out: &mut String) -> Result<(), AllocError>
-    ensures { OnOk result (string_bytes out.new ≡ string_bytes out.old ++ block_end) }
-{
-    out.push_str("    }\n    ,\n")
-}
-
-#[tactic(auto, unfolding(crate::specs::TypeSetText::set_block))]
+#[tactic(auto, unfolding(crate::specs::TypeSetText::set_block, crate::specs::TypeSetText::mask_lines))]
 pub(crate) fn push_set(out: &mut String, masks: &Masks) -> Result<(), AllocError>
     ensures { OnOk result (string_bytes out.new ≡ string_bytes out.old ++ set_block masks.now) }
 {
-    push_masks(out, masks)?;
+    let (lanes, dynamic_lanes) = (masks.lanes, masks.dynamic_lanes);
+    let (ints, floats) = (masks.ints, masks.floats);
+    write!(
+        out,
+        "    ir::instructions::ValueTypeSet {{
+        lanes: ScalarBitSet::<u16>({lanes}),
+        dynamic_lanes: ScalarBitSet::<u16>({dynamic_lanes}),
+        ints: ScalarBitSet::<u8>({ints}),
+        floats: ScalarBitSet::<u8>({floats}),
+"
+    )?;
     push_set_comment(out, "", Some(masks))?;
-    push_block_end(out)
+    out.push_str("    }\n    ,\n")
 }

@@ -1,8 +1,6 @@
-ghost use Rattle.std.specs.Prelude.{◌≡◌, ◌++◌, ◌≤◌, OnOk, IfOk, IsErrOf, string_bytes};
-ghost use Rattle.std.specs.List.{flat_map};
+ghost use Rattle.std.specs.Prelude.{◌≡◌, ◌≤◌, OnOk, IfOk, IsErrOf, string_bytes};
 ghost use Rattle.meta_text.specs.Outside.{Rose, with_more, TookPart};
 ghost use Rattle.meta_table_text.specs.declared.version.Version.TheVariants.{Three};
-ghost use Rattle.meta_table_text.specs.GroupText.{group_text};
 ghost use Rattle.meta_table_text.specs.TableText.{table_text};
 
 use super::group_text::push_group;
@@ -11,15 +9,6 @@ use super::version::Version;
 use meta_gen::Tables;
 use meta_text::{Sink, WriteError, write_whole};
 use std::alloc::{AllocError, Global};
-
-fn push_groups(alloc: Global, out: &mut String, tables: &Tables) -> Result<(), AllocError>
-    ensures { OnOk result (string_bytes out.new ≡ string_bytes out.old ++ flat_map group_text tables.now.groups) }
-{
-    for group in 0..tables.group_count() {
-        push_group(alloc, out, tables, group)?;
-    }
-    Ok(())
-}
 
 /// The text of tables in a version. It takes the place of what the crate's `gen_inst.rs` and `gen_settings.rs` write of tables. Tables that
 /// don't fit the version have a text too, but other tables can have the same one.
@@ -31,7 +20,9 @@ pub fn table_text(alloc: Global, version: Version, tables: &Tables) -> Result<St
 {
     let mut out = String::new(alloc);
     push_opcodes(alloc, &mut out, version, tables)?;
-    push_groups(alloc, &mut out, tables)?;
+    for group in 0..tables.group_count() {
+        push_group(alloc, &mut out, tables, group)?;
+    }
     Ok(out)
 }
 

@@ -4,3 +4,5 @@ mod LineParts
 mod Taken
 mod Writing
 mod Fronts
+pub mod Pieces
+pub mod Steps

@@ -5,3 +5,5 @@ pub mod Lines
 pub mod Outcomes
 pub mod Outside
 pub mod Writes
+pub mod Ends
+pub mod Filled

@@ -142,7 +142,6 @@ fn put_both<K: Sink>(sink: &mut K, front: &[u8], back: &[u8]) -> Result<(), Writ
     put(sink, back)
 }
 
-/// Writes the spaces of a level.
 fn put_level<K: Sink>(sink: &mut K, level: u32) -> Result<(), WriteError>
     ensures { Writes K.taken K.faults (indented level []) result sink.old sink.new }
 {
@@ -154,7 +153,6 @@ fn put_level<K: Sink>(sink: &mut K, level: u32) -> Result<(), WriteError>
     Ok(())
 }
 
-/// Writes a text and its end after the spaces of a level.
 fn put_line<K: Sink>(sink: &mut K, level: u32, text: &[u8], end: &[u8]) -> Result<(), WriteError>
     ensures { Writes K.taken K.faults (indented level (text.now ++ end.now)) result sink.old sink.new }
 {

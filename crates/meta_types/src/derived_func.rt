@@ -51,21 +51,14 @@ pub const DERIVED_FUNCS: [DerivedFunc; 9] = [
     DerivedFunc::Wider,
 ];
 
-/// Whether the function has this name in camel case.
-fn has_camel_name(derived_func: DerivedFunc, name: &[u8]) -> bool
-    ensures { result ≡ pointwise ◌==◌ (camel_function_name (function_of derived_func)) name.now }
-{
-    derived_func.camel_name().as_bytes() == name
-}
-
-/// The place of the function with this name in camel case among all derived functions.
 fn camel_place(name: &[u8]) -> Option<usize>
     ensures { result ≡ position (λ f. pointwise ◌==◌ (camel_function_name (function_of f)) name.now) DERIVED_FUNCS }
 {
-    DERIVED_FUNCS.iter().position(|f| has_camel_name(*f, name))
+    DERIVED_FUNCS
+        .iter()
+        .position(|f| f.camel_name().as_bytes() == name)
 }
 
-/// What the lanes of a type hold.
 #[derive(Clone, Copy, PartialEq, Eq)]
 enum LaneKind {
     Int,
@@ -229,7 +222,6 @@ impl Parts {
         }
     }
 
-    /// The parts of the type with this lane and this lane count.
     fn of_lanes(lane: LaneType, lanes: u64, is_dynamic: bool) -> Parts
         ensures { parts_meaning result ≡ record {
           kind = (lane_parts lane).kind;
@@ -250,7 +242,6 @@ impl Parts {
         }
     }
 
-    /// The lane type of the kind and width, if there is one.
     fn lane(self) -> Option<LaneType>
         ensures found { IfSome result (λ lane. lane_parts lane ≡ scalar (parts_meaning self).kind self.width) }
         ensures none { IfNone result (¬ Contains (widths (parts_meaning self).kind) self.width) }
@@ -263,7 +254,6 @@ impl Parts {
         }
     }
 
-    /// The type that has these parts, if there is one.
     fn value_type(self) -> Option<ValueType>
         ensures found { IfSome result (λ t. type_parts_of t ≡ parts_meaning self) }
         ensures none { IfNone result (¬ IsType (parts_meaning self)) }

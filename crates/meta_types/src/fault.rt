@@ -2,7 +2,7 @@ ghost use Rattle.std.specs.Prelude.{◌≡◌, ◌++◌, IfOk, Some};
 ghost use Rattle.std.specs.Fmt.{DisplaysOnOk, decimal};
 ghost use Rattle.meta_types.specs.Fault.{line_of, fault_name, fault_detail_text};
 ghost use Rattle.meta_types.specs.declared.fault.DefinitionError.TheVariants.{OutOfMemory};
-ghost use Rattle.meta_types.specs.declared.fault.FaultDetail.TheVariants.{Two, At};
+ghost use Rattle.meta_types.specs.declared.fault.FaultDetail.TheVariants.{Two};
 
 use super::text::Text;
 use std::alloc::{AllocError, AllocFailed, Global};
@@ -93,7 +93,6 @@ enum FaultDetail {
     AtAndOne(Place, u64),
 }
 
-/// Writes the text, then the number.
 fn write_numbered<W: fmt::Write>(f: &mut fmt::Formatter<W>, text: &str, n: u64) -> fmt::Result
     ensures { DisplaysOnOk W.write_str_gives f.old result (Some (text.now ++ decimal n)) f.new }
 {
@@ -107,14 +106,6 @@ fn write_two<W: fmt::Write>(f: &mut fmt::Formatter<W>, a: u64, b: u64) -> fmt::R
 {
     write_numbered(f, " ", a)?;
     write_numbered(f, " ", b)
-}
-
-/// Writes a place with a space before it.
-fn write_place<W: fmt::Write>(f: &mut fmt::Formatter<W>, p: Place) -> fmt::Result
-    ensures { DisplaysOnOk W.write_str_gives f.old result (Some (fault_detail_text (At p))) f.new }
-{
-    f.write_str(" ")?;
-    write!(f, "{p}")
 }
 
 impl fmt::Display for Place {
@@ -152,11 +143,8 @@ impl fmt::Display for FaultDetail {
                 write_two(f, *a, *b)?;
                 write_two(f, *c, *d)
             }
-            FaultDetail::At(p) => write_place(f, *p),
-            FaultDetail::AtAndOne(p, a) => {
-                write_place(f, *p)?;
-                write_numbered(f, " ", *a)
-            }
+            FaultDetail::At(p) => write!(f, " {p}"),
+            FaultDetail::AtAndOne(p, a) => write!(f, " {p} {a}"),
         }
     }
 }
@@ -220,7 +208,6 @@ impl DefinitionError {
         }
     }
 
-    /// What the fault's line has after the name.
     fn detail(&self) -> FaultDetail
         ensures { line_of self.now ≡ fault_name self.now ++ fault_detail_text result }
     {

@@ -104,7 +104,6 @@ impl LaneType {
         }
     }
 
-    /// The lane with this code. `None` exactly if no lane has it.
     pub(crate) fn from_code(code: u16) -> Option<LaneType>
         ensures found { IfSome result (λ l. lane_code (lane_parts l).kind (lane_parts l).width ≡ code) }
         ensures none { IfNone result ((kind : NumberKind) (width : ℕ) → Contains (widths kind) width → lane_code kind width ≢ code) }
@@ -178,7 +177,6 @@ impl LaneType {
         Ok(Text::of(doc))
     }
 
-    /// The name, such as `i32`.
     pub(crate) fn name(self) -> &'static str
         ensures { result.now ≡ name_of (lane_parts self) }
     {

@@ -2,10 +2,10 @@ ghost use Rattle.std.specs.Prelude.{◌≡◌, ◌≢◌, ◌↔◌, ℕ, IsTrue
 ghost use Rattle.meta_types.specs.TypeParts.{lane_counts, log2};
 ghost use Rattle.meta_types.specs.Vector.{lane_count};
 
-/// How many lanes a vector has: a power of two from 2 to 256.
+/// How many lanes a vector has: a power of two from 2 to 256. The number of a count is its exponent.
 #[derive(Clone, Copy, PartialEq, Eq, Hash)]
 pub(crate) enum LaneCount {
-    X2,
+    X2 = 1,
     X4,
     X8,
     X16,
@@ -35,7 +35,6 @@ const LANE_COUNTS: [LaneCount; 8] = [
 ];
 
 impl LaneCount {
-    /// The lane count with this number, which `is_lane_count` tests.
     pub(crate) fn new(lanes: u64) -> LaneCount
         requires { Contains (lane_counts true) lanes }
         ensures { lane_count result ≡ lanes }
@@ -52,39 +51,18 @@ impl LaneCount {
         }
     }
 
-    /// The number of lanes, 2 to 256.
     pub(crate) fn get(self) -> u64
         ensures { result ≡ lane_count self }
     {
-        match self {
-            LaneCount::X2 => 2,
-            LaneCount::X4 => 4,
-            LaneCount::X8 => 8,
-            LaneCount::X16 => 16,
-            LaneCount::X32 => 32,
-            LaneCount::X64 => 64,
-            LaneCount::X128 => 128,
-            LaneCount::X256 => 256,
-        }
+        1 << self.log2()
     }
 
-    /// The exponent of the power of two, 1 to 8.
     pub(crate) fn log2(self) -> u16
         ensures { result ≡ log2 (lane_count self) }
     {
-        match self {
-            LaneCount::X2 => 1,
-            LaneCount::X4 => 2,
-            LaneCount::X8 => 3,
-            LaneCount::X16 => 4,
-            LaneCount::X32 => 5,
-            LaneCount::X64 => 6,
-            LaneCount::X128 => 7,
-            LaneCount::X256 => 8,
-        }
+        self as u16
     }
 
-    /// The lane count with this exponent. `None` exactly if there is no such count.
     pub(crate) fn from_log2(exponent: u16) -> Option<LaneCount>
         ensures found { IfSome result (λ n. log2 (lane_count n) ≡ exponent) }
         ensures none { IfNone result ((n : ℕ) → Contains (lane_counts true) n → log2 n ≢ exponent) }

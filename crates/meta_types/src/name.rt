@@ -23,7 +23,6 @@ pub fn are_names(texts: &[Text]) -> bool
     texts.iter().all(|text| is_name(text))
 }
 
-/// The character, or its capital if it is a letter `a` to `z` and `at_start` is set.
 fn capital_at(at_start: bool, c: char) -> char
     ensures { result ≡ capital_at at_start c }
 {

@@ -35,7 +35,6 @@ impl Text {
         })
     }
 
-    /// The text that the string holds.
     pub(crate) fn of(inner: String) -> Text
         ensures { result ≡ string_bytes inner }
     {

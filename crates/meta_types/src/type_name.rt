@@ -55,7 +55,6 @@ const DYNAMIC_ROWS: [(&str, u8); 8] = [
     ("x256xN", 16),
 ];
 
-/// The number that stands with the text in these rows.
 fn number_beside(rows: &[(&str, u8)], text: &[u8]) -> Option<u8>
     ensures { result ≡ found_in (map (λ row. (row.0.now, row.1)) rows.now) text.now }
 {

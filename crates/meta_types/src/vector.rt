@@ -168,7 +168,6 @@ impl fmt::Display for DynamicVectorType {
     }
 }
 
-/// Writes a vector as a programmer sees it, with the name of its kind first.
 fn write_debug<W: fmt::Write>(
     f: &mut fmt::Formatter<W>,
     name: &str,

@@ -141,7 +141,6 @@ impl TypeSetBuilder {
         }))
     }
 
-    /// All lane counts that `simd_lanes` can have.
     fn all_simd_lanes(&self) -> &[u16]
         ensures { result.now ≡ simd_counts self.now.includes_scalars }
     {
@@ -152,7 +151,6 @@ impl TypeSetBuilder {
         }
     }
 
-    /// The mask of the lane counts of scalars and fixed vectors.
     fn lanes_mask(&self) -> u16
         ensures { result ≡ sum (lanes_between self.now.includes_scalars self.now.simd_lanes) }
     {

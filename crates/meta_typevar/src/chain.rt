@@ -23,7 +23,6 @@ impl Model for Chain {
 }
 
 impl Chain {
-    /// The chain of a root, which is empty.
     pub(crate) fn new(alloc: Global) -> Chain
         ensures { result ≡ [] }
     {
@@ -38,7 +37,6 @@ impl Chain {
         self.functions.as_slice()
     }
 
-    /// A copy of the chain, with one function more at the end.
     pub(crate) fn with(&self, alloc: Global, derived_func: DerivedFunc) -> Result<Chain, AllocError>
         ensures { IfOk result (λ c. c ≡ self.now ++ function_of derived_func ∷ []) }
     {

@@ -35,7 +35,6 @@ impl Children {
         }
     }
 
-    /// The number of the variable that is derived by the function, if there is one.
     pub(crate) fn get(&self, derived_func: DerivedFunc) -> Option<u32>
         ensures { result ≡ child_of self.now derived_func }
     {
@@ -52,7 +51,6 @@ impl Children {
         }
     }
 
-    /// Sets the number of the variable that is derived by the function.
     pub(crate) fn set(&mut self, derived_func: DerivedFunc, number: u32)
         ensures this { child_of self.new derived_func ≡ Some number }
         ensures others { (f : DerivedFunc) → f ≢ derived_func → child_of self.new f ≡ child_of self.old f }

@@ -1,5 +1,5 @@
 ghost use Rattle.std.specs.Prelude.{◌≡◌, IsOkAnd};
-ghost use Rattle.meta_typevar.specs.Registry.{is_root, coded_set};
+ghost use Rattle.meta_typevar.specs.Registry.{coded_set};
 
 use super::chain::Chain;
 use super::type_set::TypeSet;
@@ -33,12 +33,6 @@ pub struct TypeVarContent {
 }
 
 impl TypeVarContent {
-    pub(crate) fn is_root(&self) -> bool
-        ensures { result ≡ is_root self.now }
-    {
-        self.base.is_none()
-    }
-
     /// The coded image of the variable: the type set of a root, and else the image of the parent's under the last function.
     pub(crate) fn coded(&self, alloc: Global) -> Result<TypeSet, AllocError>
         ensures { IsOkAnd result (λ s. s ≡ coded_set self.now) }

@@ -34,7 +34,6 @@ pub(crate) fn fixed_along(set: &TypeSet, chain: &[DerivedFunc]) -> Option<ValueT
     Some(t)
 }
 
-/// The only member, if there is exactly one.
 fn only_member(set: &TypeSet) -> Option<ValueType>
     ensures found { IfSome result (λ t. IsFixed set.now [] (type_parts_of t)) }
     ensures none { IfNone result (IsFixedNowhere set.now []) }
@@ -45,7 +44,6 @@ fn only_member(set: &TypeSet) -> Option<ValueType>
     first_member(set)
 }
 
-/// The member with the least number.
 fn first_member(set: &TypeSet) -> Option<ValueType>
     ensures found { IfSome result (λ r. IsMember set.now (type_parts_of r)) }
     ensures least { IfSome result (λ r. (m : TypeParts) → IsMember set.now m → number_of (type_parts_of r) ≤ number_of m) }
@@ -72,7 +70,6 @@ fn all_reach(set: &TypeSet, chain: &[DerivedFunc], from: u16, t: ValueType) -> b
     true
 }
 
-/// Whether the functions lead to the type from the member with the number, if there is one.
 fn member_reaches(set: &TypeSet, chain: &[DerivedFunc], number: u16, t: ValueType) -> bool
     ensures { IsTrue result ↔ ((r : TypeParts) → IsMember set.now r → number_of r ≡ number
         → Reaches (functions_of chain.now) r (type_parts_of t)) }
@@ -83,7 +80,6 @@ fn member_reaches(set: &TypeSet, chain: &[DerivedFunc], number: u16, t: ValueTyp
     }
 }
 
-/// Whether the functions lead from one type to another.
 fn reaches(chain: &[DerivedFunc], r: ValueType, t: ValueType) -> bool
     ensures { IsTrue result ↔ Reaches (functions_of chain.now) (type_parts_of r) (type_parts_of t) }
 {

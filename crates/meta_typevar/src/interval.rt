@@ -39,7 +39,6 @@ impl From<Range<u16>> for Interval {
 }
 
 impl Interval {
-    /// Whether the interval has the number.
     pub(crate) fn has(&self, n: u16) -> bool
         ensures { result ≡ has self.now n }
     {

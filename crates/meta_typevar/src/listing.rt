@@ -54,21 +54,18 @@ impl Masks {
         Numbers::new(self.lanes, &SIMD_LANES)
     }
 
-    /// The least lane counts of dynamic vectors.
     pub(crate) fn dynamic_lane_numbers(self) -> Numbers
         ensures { result ≡ (sets_in self).dynamic_lanes }
     {
         Numbers::new(self.dynamic_lanes, &VECTOR_LANES)
     }
 
-    /// The integer widths.
     pub(crate) fn int_numbers(self) -> Numbers
         ensures { result ≡ (sets_in self).ints }
     {
         Numbers::new(self.ints.into(), &INT_WIDTHS)
     }
 
-    /// The float widths.
     pub(crate) fn float_numbers(self) -> Numbers
         ensures { result ≡ (sets_in self).floats }
     {
@@ -76,7 +73,6 @@ impl Masks {
     }
 }
 
-/// Adds the types with this lane count of each of these lanes.
 fn push_fixed(
     types: &mut Vec<ValueType>,
     lane_types: &[LaneType],
@@ -92,7 +88,6 @@ fn push_fixed(
     Ok(())
 }
 
-/// Adds the dynamic vectors with this least lane count of each of these lanes.
 fn push_dynamic(
     types: &mut Vec<ValueType>,
     lane_types: &[LaneType],

@@ -47,7 +47,6 @@ impl Masks {
         self.holds_lane(place % 16) && self.holds_lanes(place / 16)
     }
 
-    /// Whether the masks are those of a type set: each is the sum of some of the widths, or lane counts, that types have.
     pub(crate) fn are_of_types(&self) -> bool
         ensures { IsTrue result ↔ AreMasks self.now }
     {
@@ -109,7 +108,6 @@ impl Masks {
         }
     }
 
-    /// Whether a variable with this coded set can be derived from by the function.
     pub(crate) fn can_derive(self, derived_func: DerivedFunc) -> bool
         requires { AreMasks self }
         ensures { result ≡ can_derive (function_of derived_func) (sets_in self) }
@@ -124,7 +122,6 @@ impl Masks {
         }
     }
 
-    /// The masks with one lane in place of the lanes.
     fn lane_of(self) -> Masks
         requires { AreMasks self }
         ensures { IsMaskImage LaneOf self result }
@@ -149,7 +146,6 @@ impl Masks {
         }
     }
 
-    /// Half the widths that can be halved.
     fn half_width(self) -> Masks
         requires { AreMasks self }
         ensures { IsMaskImage HalfWidth self result }
@@ -161,7 +157,6 @@ impl Masks {
         }
     }
 
-    /// Twice the widths that can be doubled.
     fn double_width(self) -> Masks
         requires { AreMasks self }
         ensures { IsMaskImage DoubleWidth self result }
@@ -173,7 +168,6 @@ impl Masks {
         }
     }
 
-    /// Half the widths and twice the lane counts, of those that can be halved and doubled.
     fn split_lanes(self) -> Masks
         requires { AreMasks self }
         ensures { IsMaskImage SplitLanes self result }
@@ -184,7 +178,6 @@ impl Masks {
         }
     }
 
-    /// Twice the widths and half the lane counts, of those that can be doubled and halved.
     fn merge_lanes(self) -> Masks
         requires { AreMasks self }
         ensures { IsMaskImage MergeLanes self result }
@@ -207,7 +200,6 @@ impl Masks {
         }
     }
 
-    /// Whether each width is above the least width of its kind.
     fn can_halve(self) -> bool
         requires { AreMasks self }
         ensures { result ≡ can_halve (sets_in self) }
@@ -215,7 +207,6 @@ impl Masks {
         self.ints & 8 == 0 && self.floats & 16 == 0
     }
 
-    /// Whether each width is below 128.
     fn can_double(self) -> bool
         requires { AreMasks self }
         ensures { result ≡ can_double (sets_in self) }
@@ -223,7 +214,6 @@ impl Masks {
         self.ints & 128 == 0 && self.floats & 128 == 0
     }
 
-    /// Whether there are lanes, each of them below 256.
     fn has_lanes_to_double(self) -> bool
         requires { AreMasks self }
         ensures { result ≡ (has_some (sets_in self).lanes && list_all (λ n. nat_lt n 256) (sets_in self).lanes) }
@@ -231,7 +221,6 @@ impl Masks {
         self.lanes != 0 && self.lanes & 256 == 0
     }
 
-    /// Whether there are lanes, each of them above 1.
     fn has_lanes_to_halve(self) -> bool
         requires { AreMasks self }
         ensures { result ≡ (has_some (sets_in self).lanes && list_all (nat_lt 1) (sets_in self).lanes) }
@@ -239,7 +228,6 @@ impl Masks {
         self.lanes != 0 && self.lanes & 1 == 0
     }
 
-    /// Whether there are only scalars, of some width.
     fn has_scalars_alone(self) -> bool
         requires { AreMasks self }
         ensures { result ≡ has_scalars_alone (sets_in self) }
@@ -248,7 +236,6 @@ impl Masks {
     }
 }
 
-/// Whether the mask holds the power of two `n`.
 fn holds(mask: u16, n: u16) -> bool
     ensures { IsTrue result ↔ Holds mask n }
 {

@@ -33,7 +33,6 @@ impl Numbers {
         Numbers { mask, all }
     }
 
-    /// Whether there is a number.
     pub(crate) fn has_some(&self) -> bool
         ensures { result ≡ has_some self.now }
     {
@@ -78,7 +77,6 @@ impl fmt::Display for Numbers {
     }
 }
 
-/// Writes a number, after a comma if it follows another.
 fn write_number<W: fmt::Write>(f: &mut fmt::Formatter<W>, n: u16, follows: bool) -> fmt::Result
     ensures { DisplaysOnOk W.write_str_gives f.old result (Some ((if follows then codes ", " else []) ++ decimal n)) f.new }
 {

@@ -59,7 +59,7 @@ impl TypeVars {
     pub fn root_count(&self) -> usize
         ensures { result ≡ length (filter is_root self.now) }
     {
-        self.contents.iter().filter(|c| c.is_root()).count()
+        self.contents.iter().filter(|c| c.base.is_none()).count()
     }
 
     /// Whether a variable can be added: there are fewer than 2^32 - 1.
@@ -85,12 +85,10 @@ impl TypeVars {
         &self.contents[tv.index()]
     }
 
-    /// The allocator of the registry.
     pub(crate) fn allocator(&self) -> Global {
         *self.contents.allocator()
     }
 
-    /// The variable that is derived from `tv`, of this registry, by the function, if there is one.
     pub(crate) fn find(&self, tv: TypeVar, derived_func: DerivedFunc) -> Option<TypeVar>
         requires { tv < length self.now }
         ensures registry { IsRegistry self.now }
@@ -103,7 +101,6 @@ impl TypeVars {
         }
     }
 
-    /// Adds a root. There must be room. After an error the registry is as it was.
     pub(crate) fn add_root(
         &mut self,
         name: Text,
@@ -157,8 +154,6 @@ impl TypeVars {
         })
     }
 
-    /// Adds the variable that is derived from `tv` by a function, which must not be there yet. There must be room. After an error the
-    /// registry is as it was.
     pub(crate) fn add_derived(
         &mut self,
         parent: TypeVar,
@@ -181,7 +176,6 @@ impl TypeVars {
     }
 }
 
-/// Adds a variable from which nothing is derived yet. After an error both lists are as they were.
 fn push_both(
     contents: &mut Vec<TypeVarContent>,
     children: &mut Vec<Children>,

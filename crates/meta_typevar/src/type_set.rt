@@ -59,7 +59,6 @@ impl Model for TypeSet {
 }
 
 impl TypeSet {
-    /// The type set of these masks.
     pub(crate) fn from_masks(masks: Masks) -> TypeSet
         requires { AreMasks masks }
         ensures { result ≡ sets_in masks }
@@ -96,7 +95,6 @@ impl TypeSet {
         self.masks.contains(t.number())
     }
 
-    /// The type of the set with the number, if there is one.
     pub(crate) fn member(&self, number: u16) -> Option<ValueType>
         ensures found { IfSome result (λ r. IsMember self.now (type_parts_of r) × (number_of (type_parts_of r) ≡ number)) }
         ensures none { IfNone result ((r : TypeParts) → IsMember self.now r → number_of r ≡ number → ⊥) }
@@ -141,7 +139,6 @@ impl TypeSet {
         Ok(TypeSet::from_masks(self.masks.image(derived_func)))
     }
 
-    /// Whether a variable with this coded set can be derived from by the function.
     pub(crate) fn can_derive(&self, derived_func: DerivedFunc) -> bool
         ensures { result ≡ can_derive (function_of derived_func) self.now }
     {
@@ -163,7 +160,6 @@ impl TypeSet {
         })
     }
 
-    /// The only type of the set, if there is exactly one.
     pub(crate) fn only_type(&self) -> Option<ValueType>
         ensures found { IfSome result (λ t. IsOnlyMember self.now (type_parts_of t)) }
         ensures none { IfNone result (¬ HasOne self.now) }
@@ -172,7 +168,6 @@ impl TypeSet {
     }
 }
 
-/// The type of a lane.
 fn lane_of(value_type: ValueType) -> LaneType
     ensures kind { (lane_parts result).kind ≡ (type_parts_of value_type).kind }
     ensures width { (lane_parts result).width ≡ (type_parts_of value_type).width }
@@ -184,7 +179,6 @@ fn lane_of(value_type: ValueType) -> LaneType
     }
 }
 
-/// The lane count, or the least lane count of a dynamic vector.
 fn least_lanes(value_type: ValueType) -> u64
     ensures lanes { result ≡ (type_parts_of value_type).lanes }
     ensures few { result ≤ 256 }
@@ -203,7 +197,6 @@ fn dynamic_mask(lanes: u16) -> u16
     if lanes == 1 { 0 } else { lanes }
 }
 
-/// The width of an integer lane as a mask. It is empty for a float.
 fn int_mask(lane: LaneType) -> u8
     ensures { result ≡ sum (int_width_of (lane_parts lane).kind (lane_parts lane).width) }
 {
@@ -213,7 +206,6 @@ fn int_mask(lane: LaneType) -> u8
     }
 }
 
-/// The width of a floating-point lane as a mask. It is empty for an integer.
 fn float_mask(lane: LaneType) -> u8
     ensures { result ≡ sum (float_width_of (lane_parts lane).kind (lane_parts lane).width) }
 {

@@ -320,7 +320,6 @@ impl TypeVar {
         fixed_along(set, vars.content(self).chain.as_slice())
     }
 
-    /// The variable with this number.
     pub(crate) fn of(number: u32) -> TypeVar
         ensures { result ≡ number }
     {

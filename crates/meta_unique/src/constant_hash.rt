@@ -38,7 +38,6 @@ pub fn generate_table<'c, T, H: Fn(&T) -> usize + Drop>(
     Ok(table)
 }
 
-// How many slots a table of this many items has.
 fn table_size(count: usize) -> usize
     requires { count ≤ 65535 }
     ensures { IsTableSize count result }
@@ -56,7 +55,6 @@ fn vacant_slots<X: Drop>(alloc: Global, size: usize) -> Result<Vec<Option<X>>, A
     Ok(table)
 }
 
-// The first vacant slot of a probe.
 fn first_vacant<X>(slots: &[Option<X>], start: usize) -> usize
     requires power { IsPowerOfTwo (length slots.now) }
     requires vacant { (slot : ℕ) × IsVacant slots.now slot }

@@ -6,7 +6,6 @@ ghost use Rattle.meta_unique.specs.NameSlots.{HashesTo, AreNameSlots, numbers_fr
 use super::constant_hash::{generate_table, simple_hash};
 use std::alloc::{AllocError, Global};
 
-/// The numbers from `first` on, `count` of them.
 fn numbers(alloc: Global, first: u16, count: usize) -> Result<Vec<u16>, AllocError>
     requires { first + count ≤ 65536 }
     ensures { IfOk result (λ v. v.items ≡ numbers_from first count) }
@@ -18,7 +17,6 @@ fn numbers(alloc: Global, first: u16, count: usize) -> Result<Vec<u16>, AllocErr
     Ok(numbers)
 }
 
-/// The slots with the numbers that the references point to.
 fn pointed_at(alloc: Global, slots: &[Option<&u16>]) -> Result<Vec<Option<u16>>, AllocError>
     ensures { IfOk result (λ v. v.items ≡ map option_copied slots.now) }
 {
@@ -29,7 +27,6 @@ fn pointed_at(alloc: Global, slots: &[Option<&u16>]) -> Result<Vec<Option<u16>>,
     Ok(copies)
 }
 
-/// The hash of the name with this number.
 fn hash_at(names: &[&[u8]], first: u16, number: u16) -> usize
     requires low { first ≤ number }
     requires high { number < first + length names.now }

@@ -33,7 +33,6 @@ impl<L: Ledger> Steps<L> {
         Steps { book, share }
     }
 
-    // Counts one slot more.
     pub(crate) fn tick(&mut self)
         ensures { self.new ≡ self.old + 1 }
     {

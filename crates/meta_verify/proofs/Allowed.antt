@@ -6,12 +6,12 @@ use Rattle.meta_types.specs.TypeParts.{TypeParts, IsType, number_of}
 use Rattle.meta_inst.specs.Builder.{Builder}
 use Rattle.meta_inst.specs.Faults.{IsAt, IsValid}
 use Rattle.meta_inst.specs.InstructionSet.{InstructionSet}
-use Rattle.meta_meaning.specs.Acceptance.{IsNumberOf}
-use Rattle.meta_meaning.specs.Tables.{TableContents, Allows}
-use Rattle.meta_opcode_tables.specs.Contents.{IsOpcodeNamed}
-use Rattle.meta_opcode_tables.specs.TablesOf.{AreTablesOf, AcceptsOpcode}
+use Rattle.meta_inst.specs.Acceptance.{IsNumberOf}
+use Rattle.meta_inst.specs.Tables.{TableContents, Allows}
+use Rattle.meta_gen.specs.Contents.{IsOpcodeNamed}
+use Rattle.meta_gen.specs.TablesOf.{AreTablesOf, AcceptsOpcode}
 use Rattle.meta_lists.proofs.Everywhere.{at_place}
-use Rattle.meta_declared.proofs.DifferentNames.{different_names}
+use Rattle.meta_build.proofs.DifferentNames.{different_names}
 use Rattle.meta_gen.specs.Question.{Question}
 use Rattle.meta_gen.specs.Reply.{AllowsAsked, AllowedReply, AcceptsAsked, IsAskedFor, AcceptedReply}
 use Rattle.meta_gen.specs.declared.reply.Reply.{Reply}

@@ -11,10 +11,10 @@ use Rattle.std.proofs.lemmas.Option.{same_Some}
 use Rattle.std.proofs.lemmas.List.Elements.{All-head, All-tail}
 use Rattle.meta_lists.specs.First.{IsFirst}
 use Rattle.meta_types.specs.TypeParts.{TypeParts, IsType, number_of}
-use Rattle.meta_meaning.specs.Tables.{TableContents, at_opcode, Allows}
-use Rattle.meta_opcode_tables.specs.Contents.{IsOpcodeNamed}
+use Rattle.meta_inst.specs.Tables.{TableContents, at_opcode, Allows}
+use Rattle.meta_gen.specs.Contents.{IsOpcodeNamed}
 use Rattle.meta_types.specs.TypeNumber.{type_with, IsTypeNumber}
-use Rattle.meta_words.proofs.TypeListLemmas.{numbers_back}
+use Rattle.meta_lines.proofs.TypeListLemmas.{numbers_back}
 use Rattle.meta_gen.specs.Reply.{AllowsAsked, AllowedReply}
 use Rattle.meta_verify.specs.Statement.{TypedValue, Statement, OfParameter, OfApplication}
 use Rattle.meta_verify.specs.Environment.{Environment, nothing_defined, with_values, first_undefined, first_redefined, HaveTypes}

@@ -7,9 +7,9 @@ use Rattle.meta_types.specs.TypeParts.{TypeParts, IsType}
 use Rattle.meta_types.specs.TypeNumber.{type_with, IsTypeNumber}
 use Rattle.meta_inst.specs.Faults.{IsValid}
 use Rattle.meta_inst.specs.InstructionSet.{InstructionSet}
-use Rattle.meta_meaning.specs.Tables.{TableContents, Allows}
-use Rattle.meta_opcode_tables.specs.TablesOf.{AreTablesOf, AcceptsOpcode}
-use Rattle.meta_words.specs.Lines.{lines_of}
+use Rattle.meta_inst.specs.Tables.{TableContents, Allows}
+use Rattle.meta_gen.specs.TablesOf.{AreTablesOf, AcceptsOpcode}
+use Rattle.meta_lines.specs.Lines.{lines_of}
 use Rattle.meta_gen.specs.Question.{Question}
 use Rattle.meta_gen.specs.Reply.{AllowedReply, AcceptedReply}
 use Rattle.meta_gen.specs.declared.reply.Reply.{Reply}

@@ -4,7 +4,7 @@ use Rattle.std.proofs.Common.{ap, ap₂, ◌∙◌, subst}
 use Rattle.std.proofs.lemmas.Bool.{cases_order}
 use Rattle.std.proofs.lemmas.Option.{same_Some, slice_get_within}
 use Rattle.meta_types.specs.TypeParts.{TypeParts}
-use Rattle.meta_words.specs.Lines.{lines_of}
+use Rattle.meta_lines.specs.Lines.{lines_of}
 use Rattle.meta_gen.specs.Question.{Question}
 use Rattle.meta_gen.specs.declared.reply.Reply.{Reply}
 use Rattle.meta_gen.specs.declared.reply.Reply.TheVariants as reply

@@ -1,7 +1,7 @@
 -- What a run says of the lines.
 use Rattle.std.proofs.Common.{◌≡◌, ◌⊎◌, inl, inr, ℕ, Bool, true, false, List, ◌++◌, Option, Some, subst}
 use Rattle.meta_types.specs.declared.fault.DefinitionError.{DefinitionError}
-use Rattle.meta_declared.specs.AllDeclared.{Declared, ShowsFirst, AreValid}
+use Rattle.meta_build.specs.AllDeclared.{Declared, ShowsFirst, AreValid}
 use Rattle.meta_run.specs.Ending.{written_as}
 use Rattle.meta_run.specs.declared.ending.Ending.{Ending}
 use Rattle.meta_run.specs.Run.{IsWordlessRun}

@@ -8,12 +8,12 @@ use Rattle.std.proofs.lemmas.List.Elements.{All-nil, All-cons, All-head, All-tai
 use Rattle.std.proofs.lemmas.List.Splits.{join_with_byte-slice_split}
 use Rattle.meta_types.specs.TypeParts.{TypeParts, IsType, name_of}
 use Rattle.meta_types.proofs.Names.{one_name}
-use Rattle.meta_words.specs.Words.{IsWord, AreWords, pieces_of}
-use Rattle.meta_words.specs.Control.{control_text, IsBehind}
-use Rattle.meta_words.proofs.PieceLemmas.{slice_split_cons, All-slice_split, only_piece, whole_piece, first_piece}
-use Rattle.meta_words.proofs.NameLemmas.{IsDigit, decimal_lacks, has_no_comma, has_no_colon}
-use Rattle.meta_words.proofs.WordLemmas.{pieces_of-words, words_from}
-use Rattle.meta_words.proofs.ControlLemmas.{same_controls, control_has_bytes}
+use Rattle.meta_lines.specs.Words.{IsWord, AreWords, pieces_of}
+use Rattle.meta_lines.specs.Control.{control_text, IsBehind}
+use Rattle.meta_lines.proofs.PieceLemmas.{slice_split_cons, All-slice_split, only_piece, whole_piece, first_piece}
+use Rattle.meta_lines.proofs.NameLemmas.{IsDigit, decimal_lacks, has_no_comma, has_no_colon}
+use Rattle.meta_lines.proofs.WordLemmas.{pieces_of-words, words_from}
+use Rattle.meta_lines.proofs.ControlLemmas.{same_controls, control_has_bytes}
 use Rattle.meta_verify.specs.Statement.{TypedValue, Application, Statement, OfParameter, OfApplication, IsValue, IsTyped, CanApply}
 use Rattle.meta_verify.specs.Statement.{IsStatement, value_text, typed_text, list_text, words_of}
 use Rattle.meta_verify.specs.Numbers.{typed_value_of, IsTypedNumber}

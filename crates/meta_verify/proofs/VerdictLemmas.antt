@@ -4,7 +4,7 @@ use Rattle.std.proofs.Common.{None, Some, codes, refl, sym, ap, ◌∙◌, subst
 use Rattle.std.specs.Fmt.{decimal}
 use Rattle.std.proofs.lemmas.Bool.{cases_order}
 use Rattle.meta_lists.proofs.Places.{take_next, drop_next}
-use Rattle.meta_meaning.specs.Tables.{TableContents}
+use Rattle.meta_inst.specs.Tables.{TableContents}
 use Rattle.meta_gen.specs.Reply.{AllowedReply}
 use Rattle.meta_verify.specs.Environment.{Environment, nothing_defined}
 use Rattle.meta_verify.specs.Reason.{reason_text}

@@ -4,7 +4,7 @@
 --     IsVerdict R input is_rejection text      the text says whether the input is right, or which line is the first wrong one, and why
 use Rattle.std.specs.Prelude.{◌≡◌, ℕ, ◌+◌, ◌<◌, Bool, true, false, List, [], ◌∷◌, ◌++◌, take, length, slice_get, Option, None, Some, codes}
 use Rattle.std.specs.Fmt.{decimal}
-use Rattle.meta_words.specs.Lines.{lines_of}
+use Rattle.meta_lines.specs.Lines.{lines_of}
 use Rattle.meta_verify.specs.Environment.{Environment, nothing_defined}
 use Rattle.meta_verify.specs.Reason.{reason_text}
 use Rattle.meta_verify.specs.Wrong.{Replies, Feeds}

@@ -2,8 +2,8 @@
 --     ChecksLines      what it says where nothing fails
 use Rattle.std.specs.Prelude.{◌≡◌, ◌≢◌, ℕ, ◌+◌, ◌≤◌, ◌⊎◌, List, [], ◌++◌, length, Option, Some}
 use Rattle.meta_text.specs.Outside.{Rose, longest_input}
-use Rattle.meta_declared.specs.AllDeclared.{Declared, AreValid}
-use Rattle.meta_words.specs.Lines.{lines_of}
+use Rattle.meta_build.specs.AllDeclared.{Declared, AreValid}
+use Rattle.meta_lines.specs.Lines.{lines_of}
 use Rattle.meta_gen.specs.Reply.{AcceptedReply}
 use Rattle.meta_run.specs.Run.{Texts}
 use Rattle.meta_run.specs.declared.ending.Ending.{Ending}

@@ -30,7 +30,6 @@ pub(crate) fn look_up(
     Ok(None)
 }
 
-/// The value, if it is defined.
 pub(crate) fn defined_before(types: &KnownTypes, value: u32) -> Option<u32>
     ensures { result ≡ (if is_some (environment_of types.now value) then Some value else None) }
 {

@@ -34,12 +34,10 @@ fn make_room(near: &mut Vec<u16>, value: u32) -> Result<(), AllocError>
 pub(crate) struct KnownTypes {
     /// The numbers for the first values, by value: 0 for a value that isn't in the list.
     near: Vec<u16>,
-    /// The numbers for other values.
     others: BTreeMap<u32, u16>,
 }
 
 impl KnownTypes {
-    /// No value is defined.
     pub(crate) fn new(alloc: Global) -> KnownTypes
         ensures { (v : ℕ) → known_number result v ≡ None }
     {
@@ -49,7 +47,6 @@ impl KnownTypes {
         }
     }
 
-    /// The number of the type of the value, if it is defined.
     pub(crate) fn get(&self, value: u32) -> Option<u16>
         ensures { result ≡ known_number self.now value }
     {
@@ -76,7 +73,6 @@ impl KnownTypes {
         Ok(())
     }
 
-    /// Takes the value back.
     pub(crate) fn remove(&mut self, value: u32)
         ensures { (v : ℕ) → known_number self.new v ≡ (if nat_eq value v then None else known_number self.old v) }
     {

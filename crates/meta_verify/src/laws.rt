@@ -1,9 +1,9 @@
 ghost use Rattle.std.specs.Prelude.{◌≡◌, ◌↔◌, ℕ, List, Bool, Option};
 ghost use Rattle.meta_inst.specs.Faults.{IsValid};
 ghost use Rattle.meta_inst.specs.InstructionSet.{InstructionSet};
-ghost use Rattle.meta_meaning.specs.Tables.{TableContents, Allows};
-ghost use Rattle.meta_opcode_tables.specs.TablesOf.{AreTablesOf, AcceptsOpcode};
-ghost use Rattle.meta_declared.specs.AllDeclared.{Declared, AreValid};
+ghost use Rattle.meta_inst.specs.Tables.{TableContents, Allows};
+ghost use Rattle.meta_gen.specs.TablesOf.{AreTablesOf, AcceptsOpcode};
+ghost use Rattle.meta_build.specs.AllDeclared.{Declared, AreValid};
 ghost use Rattle.meta_gen.specs.Reply.{AllowedReply, AcceptedReply};
 ghost use Rattle.meta_verify.specs.declared.reason.Reason.{Reason};
 ghost use Rattle.meta_verify.specs.Environment.{Environment, nothing_defined, HasNamedTypes};

@@ -9,19 +9,14 @@ use std::mem::replace;
 /// The lists that the parts of a line are read into. They serve for all lines, one after another.
 #[derive(Drop)]
 pub(crate) struct Lists {
-    /// For the results of a line.
     pub(crate) results: Vec<TypedNumber>,
-    /// For its values.
     pub(crate) values: Vec<u32>,
-    /// For the numbers of the types of its results.
     pub(crate) result_numbers: Vec<u16>,
-    /// For those of its values.
     pub(crate) value_numbers: Vec<u16>,
     alloc: Global,
 }
 
 impl Lists {
-    /// Lists that are empty.
     pub(crate) fn new(alloc: Global) -> Lists
         ensures results { result.results.items ≡ [] }
         ensures values { result.values.items ≡ [] }
@@ -35,14 +30,12 @@ impl Lists {
         }
     }
 
-    /// Takes the list for results.
     pub(crate) fn take_results(&mut self) -> Vec<TypedNumber>
         ensures { result ≡ self.old.results }
     {
         replace(&mut self.results, Vec::new(self.alloc))
     }
 
-    /// Takes the list for values.
     pub(crate) fn take_values(&mut self) -> Vec<u32>
         ensures { result ≡ self.old.values }
     {

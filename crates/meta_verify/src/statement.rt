@@ -1,13 +1,13 @@
 ghost use Rattle.std.specs.Prelude.{◌≡◌, ◌≢◌, ◌↔◌, ℕ, ◌<◌, true, false, List, [], ◌∷◌, length, map, All, IfOk, IfSome, IfNone, IsTrue};
 ghost use Rattle.std.specs.Prelude.{codes};
-ghost use Rattle.meta_words.specs.Words.{pieces_of};
+ghost use Rattle.meta_lines.specs.Words.{pieces_of};
 ghost use Rattle.meta_verify.specs.Statement as spec;
 ghost use Rattle.meta_verify.specs.Statement.{TypedValue, IsTyped, IsValue, IsStatement, value_text, typed_text, list_text};
 ghost use Rattle.meta_verify.specs.Numbers.{typed_value_of, stated, IsTypedNumber, HasTypeNumbers};
 
 use super::lists::Lists;
+use meta_lines::{Pieces, cut, number_u32, parse_control};
 use meta_types::type_number;
-use meta_words::{Pieces, cut, number_u32, parse_control};
 use std::alloc::{AllocError, Global};
 
 /// A value and its type.
@@ -127,7 +127,6 @@ struct ParameterWords<'a> {
     name: &'a [u8],
 }
 
-/// The words of the line, if it is `param` and two more words.
 fn parameter_words(line: &[u8]) -> Option<ParameterWords<'_>>
     ensures words { IfSome result (λ w. pieces_of 32 line.now ≡ codes "param" ∷ w.value.now ∷ w.name.now ∷ []) }
     ensures none { IfNone result ((value name : List ℕ) → pieces_of 32 line.now ≢ codes "param" ∷ value ∷ name ∷ []) }

@@ -6,8 +6,8 @@ ghost use Rattle.meta_verify.specs.Verdict.{wrong_text, IsVerdict};
 use super::checker::Checker;
 use super::reason::Reason;
 use meta_gen::Tables;
+use meta_lines::Lines;
 use meta_run::Answer;
-use meta_words::Lines;
 use std::alloc::{AllocError, Global};
 
 /// The text that says which line is the first wrong one, by its number, from 1, and why.

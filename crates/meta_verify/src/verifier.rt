@@ -3,7 +3,7 @@ ghost use Rattle.meta_verify.specs.Verifier.{verdicts, ChecksLines};
 
 use super::laws::verdicts_mean;
 use super::verdict::verdict;
-use meta_declared::{Built, Declarations, one_first_fault};
+use meta_build::{Built, Declarations, one_first_fault};
 use meta_gen::tables_of;
 use meta_run::{Answer, Answerer, Ending, run_answerer};
 use meta_text::{Sink, Source};

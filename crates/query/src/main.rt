@@ -1,7 +1,7 @@
 //! Answers commands over the shared declarations: the queries of standard input, or a text.
 #![tactic(auto)]
 
-use meta_main::{CommandForm, Manual, Program, Range, start};
+use meta_command_line::{CommandForm, Manual, Program, Range, start};
 use meta_query::run;
 use meta_run::Ending;
 use meta_shared_ops::define;

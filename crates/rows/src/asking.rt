@@ -1,16 +1,16 @@
 use super::declared::Declared;
-use meta_file::{FileEnding, Over, run_file, run_words};
-use meta_file_check::{CheckEnding, Names, check_file};
-use meta_text::{MemorySink, MemorySource};
-use meta_tokens::Bytes;
+use meta_file_syntax::Bytes;
+use meta_program::{FileEnding, Names, Over, check_file, run_file, run_words};
+use meta_text::{MemorySink, MemorySource, ReadOutcome, Source};
 use meta_types::Text;
-use rows_words::{Case, Outside, Trouble, add_held, texts_of_words, write_bytes, write_ended};
+use rows_base::{
+    Answer, Case, Outside, Trouble, add_held, texts_of_words, write_bytes, write_ended,
+};
 use sha2::{Digest, Sha256};
 use std::alloc::{AllocError, Global};
 use std::io::{self, Write};
 use std::{fs, str};
 
-/// The path of a file in messages.
 pub(crate) const PATH: &[u8] = b"FILE";
 
 /// The SHA-256 of bytes, in hexadecimal digits.
@@ -22,7 +22,6 @@ pub(crate) fn sum_of(alloc: Global, bytes: &[u8]) -> Result<String, AllocError> 
     Ok(sum)
 }
 
-/// Whether bytes end with what a file holds, after something else.
 fn ends_so(rt: &HostRuntime, name: &str, bytes: &[u8]) -> bool {
     match fs::read(rt, name) {
         Ok(wanted) => bytes.len() > wanted.len() && bytes.ends_with(&wanted),
@@ -30,57 +29,23 @@ fn ends_so(rt: &HostRuntime, name: &str, bytes: &[u8]) -> bool {
     }
 }
 
-/// What a run wrote on standard error, its status, and what its sink took.
 #[derive(Drop)]
 pub(crate) struct Ran {
     told: Vec<Bytes>,
     status: u8,
     sink: MemorySink,
+    /// The next byte of the source, if one was left.
+    left: Option<u8>,
 }
 
 impl Ran {
-    fn run_file(
-        &mut self,
-        alloc: Global,
-        words: &[Text],
-        file: &mut MemorySource,
-        source: &mut MemorySource,
-    ) -> Result<(), AllocError> {
-        let ending = run_file(alloc, words, PATH, file, source, &mut self.sink);
-        self.status = ending.code();
-        match ending {
-            FileEnding::Refused(message) => Ok(self.told.push(message)?),
-            _ => Ok(()),
-        }
-    }
-
-    fn check_file(
-        &mut self,
-        alloc: Global,
-        names: Names,
-        file: &mut MemorySource,
-        source: &mut MemorySource,
-    ) -> Result<(), AllocError> {
-        let ending = check_file(alloc, PATH, names, file, source, &mut self.sink);
-        self.status = ending.code();
-        match ending {
-            CheckEnding::Ran(_, messages) | CheckEnding::NamesRefused(messages) => {
-                self.told = messages;
-            }
-            CheckEnding::Refused(message) => self.told.push(message)?,
-            CheckEnding::FileFault | CheckEnding::FileTooLong => {}
-        }
-        Ok(())
-    }
-
-    /// Runs words over what is declared and a source.
     fn run(
         &mut self,
         alloc: Global,
         words: &[Text],
         declared: Declared<'_>,
         source: &mut MemorySource,
-    ) -> Result<(), Trouble> {
+    ) -> Answer {
         match declared {
             Declared::Made(declarations) => {
                 let ending = run_words(alloc, words, declarations, source, &mut self.sink);
@@ -88,16 +53,24 @@ impl Ran {
             }
             Declared::File(file, text) => {
                 let mut file = file.source(alloc, text)?;
-                match Names::asked(words) {
-                    Some(names) => self.check_file(alloc, names, &mut file, source)?,
-                    None => self.run_file(alloc, words, &mut file, source)?,
+                let ending = match Names::asked(words) {
+                    Some(names) => {
+                        let sink = &mut self.sink;
+                        let checked = check_file(alloc, PATH, names, &mut file, source, sink);
+                        self.told = checked.names;
+                        checked.ending
+                    }
+                    None => run_file(alloc, words, PATH, &mut file, source, &mut self.sink),
+                };
+                self.status = ending.code();
+                if let FileEnding::Refused(message) = ending {
+                    self.told.push(message)?;
                 }
             }
         }
         Ok(())
     }
 
-    /// Runs the words over what is declared and an input.
     pub(crate) fn of(
         alloc: Global,
         words: &[Text],
@@ -110,23 +83,21 @@ impl Ran {
             told: Vec::new(alloc),
             status: 0,
             sink: outside.sink(alloc)?,
+            left: None,
         };
         ran.run(alloc, words, declared, &mut source)?;
+        let mut byte = [0; 1];
+        if let ReadOutcome::Got(_) = source.read(&mut byte) {
+            ran.left = Some(byte[0]);
+        }
         Ok(ran)
     }
 
-    /// What the sink took, if the run is done.
     pub(crate) fn done(&self) -> Result<&[u8], Trouble> {
         match self.status {
             0 => Ok(self.sink.bytes()),
             _ => Err(Trouble::NoCase),
         }
-    }
-
-    /// Writes what the sink took, what the run wrote on standard error, and the status.
-    pub(crate) fn write(&self, rt: &HostRuntime) -> io::Result<()> {
-        io::writer(rt).write_all(self.sink.bytes())?;
-        self.write_ending(rt)
     }
 
     /// Writes the status, what the sink took, with escapes, and what the run wrote on standard error.
@@ -138,29 +109,22 @@ impl Ran {
         }
     }
 
-    /// Writes how what the sink took compares with what a file holds, and the rest as `write` does.
-    pub(crate) fn write_against(&self, rt: &HostRuntime, name: &str) -> io::Result<()> {
-        let bytes = self.sink.bytes();
-        match str::from_utf8(bytes) {
-            Err(_) => println!(rt; "no text")?,
-            Ok(_) if ends_so(rt, name, bytes) => println!(rt; "ends so")?,
-            Ok(text) => {
-                let mut answer = String::new(rt.alloc());
-                add_held(rt, name, text, &mut answer)?;
-                io::writer(rt).write_all(answer.as_bytes())?;
-            }
+    pub(crate) fn write_left(&self, case: &mut Case<'_>) {
+        if let Some(byte) = self.left {
+            case.text(" next ");
+            write_bytes(case, &[byte]);
         }
-        self.write_ending(rt)
     }
 
-    /// Writes the SHA-256 of what the sink took, and the rest as `write` does.
-    pub(crate) fn write_sum(&self, rt: &HostRuntime) -> io::Result<()> {
-        println!(rt; "{}", sum_of(rt.alloc(), self.sink.bytes())?)?;
-        self.write_ending(rt)
-    }
-
-    /// Writes what the run wrote on standard error, and the status.
-    fn write_ending(&self, rt: &HostRuntime) -> io::Result<()> {
+    /// Writes what the sink took, or for `sum` its SHA-256, or for `against` how it compares with what a file holds; what the run wrote on
+    /// standard error; and the status.
+    pub(crate) fn write(&self, rt: &HostRuntime, word: &str, name: &str) -> io::Result<()> {
+        let bytes = self.sink.bytes();
+        match word {
+            "run" => io::writer(rt).write_all(bytes)?,
+            "sum" => println!(rt; "{}", sum_of(rt.alloc(), bytes)?)?,
+            _ => write_against(rt, name, bytes)?,
+        }
         for message in &self.told {
             io::writer(rt).write_all(message.as_slice())?;
             println!(rt; "")?;
@@ -169,8 +133,20 @@ impl Ran {
     }
 }
 
+fn write_against(rt: &HostRuntime, name: &str, bytes: &[u8]) -> io::Result<()> {
+    match str::from_utf8(bytes) {
+        Err(_) => println!(rt; "no text"),
+        Ok(_) if ends_so(rt, name, bytes) => println!(rt; "ends so"),
+        Ok(text) => {
+            let mut answer = String::new(rt.alloc());
+            add_held(rt, name, text, &mut answer)?;
+            io::writer(rt).write_all(answer.as_bytes())
+        }
+    }
+}
+
 /// Writes what the words that are left are asked over, and which words are asked.
-pub(crate) fn write_over(alloc: Global, case: &mut Case<'_>) -> Result<(), Trouble> {
+pub(crate) fn write_over(alloc: Global, case: &mut Case<'_>) -> Answer {
     let words = texts_of_words(alloc, case.rest())?;
     let asked = match Over::of(&words) {
         Over::Shared(asked) => {

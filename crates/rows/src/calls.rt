@@ -1,12 +1,11 @@
+use meta_asm::print_line;
 use meta_flags::{FlagError, FlagValue, Flags};
 use meta_gen::Tables;
-use meta_short::print_line;
 use meta_verify::Checker;
-use rows_words::{Case, Outside, Trouble, number};
+use rows_base::{Answer, Case, Outside, Trouble, number};
 use std::alloc::Global;
 use std::str;
 
-/// The lines of an input, without the line feed that ends the last one.
 fn lines_of(input: &[u8]) -> Result<&str, Trouble> {
     match str::from_utf8(input) {
         Ok(text) => Ok(text.strip_suffix('\n').unwrap_or(text)),
@@ -14,7 +13,6 @@ fn lines_of(input: &[u8]) -> Result<&str, Trouble> {
     }
 }
 
-/// Writes what a change answered.
 fn write_change(case: &mut Case<'_>, outcome: Result<(), FlagError>) {
     match outcome {
         Ok(()) => case.text("Ok"),
@@ -22,7 +20,6 @@ fn write_change(case: &mut Case<'_>, outcome: Result<(), FlagError>) {
     }
 }
 
-/// Writes what a question answered.
 fn write_value(case: &mut Case<'_>, outcome: Result<FlagValue<'_>, FlagError>) {
     match outcome {
         Ok(FlagValue::Bool(truth)) => case.field("Bool ", &truth),
@@ -32,13 +29,7 @@ fn write_value(case: &mut Case<'_>, outcome: Result<FlagValue<'_>, FlagError>) {
     }
 }
 
-/// Writes what `write_toml` answered, and what the sink took.
-fn write_toml(
-    alloc: Global,
-    outside: Outside,
-    flags: &Flags<'_>,
-    case: &mut Case<'_>,
-) -> Result<(), Trouble> {
+fn write_toml(alloc: Global, outside: Outside, flags: &Flags<'_>, case: &mut Case<'_>) -> Answer {
     let mut sink = outside.sink(alloc)?;
     match flags.write_toml(alloc, &mut sink) {
         Ok(()) => case.text("Ok"),
@@ -51,14 +42,13 @@ fn write_toml(
     Ok(())
 }
 
-/// Writes the answer of the call that a line names.
 fn write_call(
     alloc: Global,
     outside: Outside,
     flags: &mut Flags<'_>,
     line: &str,
     case: &mut Case<'_>,
-) -> Result<(), Trouble> {
+) -> Answer {
     let (call, after) = line.split_once(' ').unwrap_or((line, ""));
     let (name, value) = after.split_once(' ').unwrap_or((after, ""));
     match call {
@@ -72,21 +62,6 @@ fn write_call(
     Ok(())
 }
 
-/// Writes the answers of the calls that the lines name.
-fn write_answers(
-    alloc: Global,
-    outside: Outside,
-    flags: &mut Flags<'_>,
-    lines: &str,
-    case: &mut Case<'_>,
-) -> Result<(), Trouble> {
-    for line in lines.split('\n') {
-        case.separate('\n');
-        write_call(alloc, outside, flags, line, case)?;
-    }
-    Ok(())
-}
-
 /// Writes the answers of the calls that the lines of the input name, on the values of a group of the tables, or `None` if there is no such
 /// group. A call is `set NAME VALUE`, `enable NAME`, `get NAME`, `toml`, or `write`, which writes to a sink.
 pub(crate) fn write_calls(
@@ -95,10 +70,15 @@ pub(crate) fn write_calls(
     tables: &Tables,
     input: &[u8],
     case: &mut Case<'_>,
-) -> Result<(), Trouble> {
+) -> Answer {
     let lines = lines_of(input)?;
     match Flags::new(alloc, tables, case.number())? {
-        Some(mut flags) => write_answers(alloc, outside, &mut flags, lines, case)?,
+        Some(mut flags) => {
+            for line in lines.split('\n') {
+                case.separate('\n');
+                write_call(alloc, outside, &mut flags, line, case)?;
+            }
+        }
         None => case.text("None"),
     }
     Ok(())
@@ -111,7 +91,7 @@ fn write_fed_line(
     checker: &mut Checker,
     line: &str,
     case: &mut Case<'_>,
-) -> Result<(), Trouble> {
+) -> Answer {
     if let Some(value) = line.strip_prefix("type ") {
         case.number_or_dash(checker.type_of(number(value)?));
         return Ok(());
@@ -127,38 +107,27 @@ fn write_fed_line(
     Ok(())
 }
 
-/// Writes the short form of a line after those that the checker was fed, or `none`, and then feeds the line to the checker.
-fn write_short_line(
-    alloc: Global,
-    tables: &Tables,
-    checker: &mut Checker,
-    line: &str,
-    case: &mut Case<'_>,
-) -> Result<(), Trouble> {
-    match print_line(alloc, tables, checker, line.as_bytes())? {
-        Some(text) => case.text(text.as_str()),
-        None => case.text("none"),
-    }
-    let _reason = checker.feed(tables, line.as_bytes())?;
-    Ok(())
-}
-
-/// Feeds the lines of the input to a checker. `fed` writes why each is wrong, and another word writes its short form.
+/// Feeds the lines of the input to a checker. `fed` writes why each is wrong, and another word, before it is fed, its short form or `none`.
 pub(crate) fn write_fed(
     alloc: Global,
     tables: &Tables,
     input: &[u8],
     word: &str,
     case: &mut Case<'_>,
-) -> Result<(), Trouble> {
+) -> Answer {
     let lines = lines_of(input)?;
     let mut checker = Checker::new(alloc);
     for line in lines.split('\n') {
         case.separate('\n');
-        match word {
-            "fed" => write_fed_line(alloc, tables, &mut checker, line, case)?,
-            _ => write_short_line(alloc, tables, &mut checker, line, case)?,
+        if word == "fed" {
+            write_fed_line(alloc, tables, &mut checker, line, case)?;
+            continue;
         }
+        match print_line(alloc, tables, &checker, line.as_bytes())? {
+            Some(text) => case.text(text.as_str()),
+            None => case.text("none"),
+        }
+        let _reason = checker.feed(tables, line.as_bytes())?;
     }
     Ok(())
 }

@@ -1,19 +1,19 @@
 use super::asking::PATH;
 use super::calls::{write_calls, write_fed};
-use super::readings::write_readings;
+use super::describing::ask_description;
+use super::each::write_readings;
 use meta_audit::audit;
-use meta_declared::Declarations;
-use meta_file::{LoadError, load};
+use meta_build::Declarations;
+use meta_file_declare::declare;
+use meta_file_reader::read_items;
 use meta_gen::{Tables, generate};
-use meta_items_declared::declare;
-use meta_items_reader::read_items;
-use rows_words::{Case, Outside, Trouble};
+use meta_program::{LoadError, load};
+use rows_base::{Answer, Case, Outside, Trouble};
+use rows_tables::write_written;
 use std::alloc::Global;
 
-/// What words are run over.
 #[derive(Clone, Copy)]
 pub(crate) enum Declared<'d> {
-    /// Declarations in memory.
     Made(&'d Declarations),
     /// The declarations of a file: how the file behaves, and its text.
     File(Outside, &'d [u8]),
@@ -27,7 +27,6 @@ pub(crate) fn loaded(alloc: Global, text: &[u8]) -> Result<Declarations, Trouble
     }
 }
 
-/// What the items of a text declare, which may have a fault.
 pub(crate) fn declared_by(alloc: Global, text: &[u8]) -> Result<Declarations, Trouble> {
     let Ok(read) = read_items(alloc, text) else {
         return Err(Trouble::NoCase);
@@ -38,47 +37,30 @@ pub(crate) fn declared_by(alloc: Global, text: &[u8]) -> Result<Declarations, Tr
     }
 }
 
-fn generated(alloc: Global, declarations: &Declarations) -> Result<Tables, Trouble> {
-    match generate(alloc, declarations) {
-        Ok(tables) => Ok(tables),
-        Err(_) => Err(Trouble::NoCase),
-    }
-}
-
 /// Writes what the auditor says of the tables of declarations, which it is asked several times.
-fn write_audited(
-    alloc: Global,
-    declarations: &Declarations,
-    case: &mut Case<'_>,
-) -> Result<(), Trouble> {
-    let tables = generated(alloc, declarations)?;
+fn write_audited(alloc: Global, declarations: &Declarations, case: &mut Case<'_>) -> Answer {
+    let tables = generate(alloc, declarations)?;
     let times: u32 = case.number();
     for time in 1..=times {
-        match audit(alloc, declarations, &tables) {
-            Ok(verdict) if time == times => case.debugged(&verdict),
-            Ok(_) => {}
-            Err(_) => return Err(Trouble::NoCase),
+        let verdict = audit(alloc, declarations, &tables)?;
+        if time == times {
+            case.debugged(&verdict);
         }
     }
     Ok(())
 }
 
 /// Writes how many opcodes the tables of declarations have, which are made several times.
-fn write_generated(
-    alloc: Global,
-    declarations: &Declarations,
-    case: &mut Case<'_>,
-) -> Result<(), Trouble> {
+fn write_generated(alloc: Global, declarations: &Declarations, case: &mut Case<'_>) -> Answer {
     let mut count = 0;
     for _ in 0..case.number::<u32>() {
-        count = generated(alloc, declarations)?.opcode_count();
+        count = generate(alloc, declarations)?.opcode_count();
     }
     case.shown(&count);
     case.text(" opcodes");
     Ok(())
 }
 
-/// Writes what a word asks of tables and the input.
 fn ask_tables(
     alloc: Global,
     outside: Outside,
@@ -86,15 +68,16 @@ fn ask_tables(
     input: &[u8],
     word: &str,
     case: &mut Case<'_>,
-) -> Result<(), Trouble> {
+) -> Answer {
     match word {
         "reread" => write_readings(alloc, tables, input, case),
         "calls" => write_calls(alloc, outside, tables, input, case),
-        _ => write_fed(alloc, tables, input, word, case),
+        "fed" | "shortened" => write_fed(alloc, tables, input, word, case),
+        _ => rows_tables::ask_tables(alloc, tables, word, case),
     }
 }
 
-/// Writes what a word asks of declarations, or of their tables and the input.
+/// Writes what a word asks of declarations, of their texts or of their tables.
 pub(crate) fn ask_declared(
     alloc: Global,
     outside: Outside,
@@ -102,12 +85,16 @@ pub(crate) fn ask_declared(
     input: &[u8],
     word: &str,
     case: &mut Case<'_>,
-) -> Result<(), Trouble> {
+) -> Answer {
     match word {
         "audited" => write_audited(alloc, declarations, case),
         "generated" => write_generated(alloc, declarations, case),
+        "written" => write_written(alloc, outside, declarations, case),
+        "described" | "describable" | "describes" => {
+            ask_description(alloc, declarations, input, word, case)
+        }
         _ => {
-            let tables = generated(alloc, declarations)?;
+            let tables = generate(alloc, declarations)?;
             ask_tables(alloc, outside, &tables, input, word, case)
         }
     }

@@ -1,22 +1,13 @@
 use super::declared::loaded;
-use meta_declared::{Built, Declarations, build_all};
-use meta_gen::{Tables, tables_of};
-use meta_items::write_items;
-use meta_items_described::{describe, is_described, is_description, write_description};
-use meta_items_reader::{ReadError, read_items};
-use meta_synth::synth;
-use rows_words::{Case, Trouble};
-use std::alloc::{AllocError, Global};
+use meta_build::{Built, Declarations, build_all};
+use meta_file_describe::{describe, is_described, is_description, write_description};
+use meta_file_reader::{ReadError, read_items};
+use meta_file_syntax::write_items;
+use meta_gen::tables_of;
+use meta_query::synth;
+use rows_base::{Answer, Case, Trouble};
+use std::alloc::Global;
 
-/// What is built of declarations, which must be valid.
-fn built_of(alloc: Global, declarations: &Declarations) -> Result<Built<'_>, Trouble> {
-    match build_all(alloc, declarations) {
-        Ok(built) => Ok(built),
-        Err(_) => Err(Trouble::NoCase),
-    }
-}
-
-/// The text of the items that describe what is built.
 fn text_of_items(alloc: Global, built: &Built<'_>) -> Result<Vec<u8>, Trouble> {
     match describe(alloc, built)? {
         Some(items) => Ok(write_items(alloc, &items)?),
@@ -33,14 +24,6 @@ fn description(alloc: Global, built: &Built<'_>) -> Result<String, Trouble> {
     }
 }
 
-fn are_tables_of(alloc: Global, tables: &Tables, built: &Built<'_>) -> Result<bool, AllocError> {
-    Ok(tables_of(alloc, built)?.same(tables))
-}
-
-fn have_same_tables(alloc: Global, one: &Built<'_>, other: &Built<'_>) -> Result<bool, AllocError> {
-    are_tables_of(alloc, &tables_of(alloc, one)?, other)
-}
-
 /// Whether both have the same tables, and the text describes the other one.
 fn are_same(
     alloc: Global,
@@ -48,84 +31,57 @@ fn are_same(
     other: &Built<'_>,
     text: &str,
 ) -> Result<bool, Trouble> {
-    Ok(have_same_tables(alloc, built, other)? && description(alloc, other)?.as_str() == text)
-}
-
-/// Whether declarations have the same tables as what is built, and the text describes them.
-fn are_described_by(
-    alloc: Global,
-    declarations: &Declarations,
-    built: &Built<'_>,
-    text: &str,
-) -> Result<bool, Trouble> {
-    are_same(alloc, built, &built_of(alloc, declarations)?, text)
+    let tables = tables_of(alloc, built)?;
+    Ok(tables_of(alloc, other)?.same(&tables) && description(alloc, other)?.as_str() == text)
 }
 
 /// Whether the text that describes what is built declares the same, and describes that too.
 fn is_described_alike(alloc: Global, built: &Built<'_>) -> Result<bool, Trouble> {
     let text = description(alloc, built)?;
-    are_described_by(alloc, &loaded(alloc, text.as_bytes())?, built, &text)
+    let declarations = loaded(alloc, text.as_bytes())?;
+    are_same(alloc, built, &build_all(alloc, &declarations)?, &text)
 }
 
 /// Whether the text that describes declarations makes declarations with the same tables, and describes these too.
 fn comes_back(alloc: Global, declarations: &Declarations) -> Result<bool, Trouble> {
-    is_described_alike(alloc, &built_of(alloc, declarations)?)
+    is_described_alike(alloc, &build_all(alloc, declarations)?)
 }
 
-/// Writes whether the description of the declarations of the text makes the same ones, and describes these too.
-pub(crate) fn write_described(
-    alloc: Global,
-    text: &[u8],
-    case: &mut Case<'_>,
-) -> Result<(), Trouble> {
-    let is_so = comes_back(alloc, &loaded(alloc, text)?)?;
-    case.text(if is_so { "same" } else { "other" });
-    Ok(())
-}
-
-fn do_items_describe(alloc: Global, built: &Built<'_>, text: &[u8]) -> Result<bool, Trouble> {
-    match read_items(alloc, text) {
-        Ok(read) => Ok(is_described(alloc, built, &read.items)?),
-        Err(ReadError::Refused(_refusal)) => Ok(false),
-        Err(ReadError::Memory) => Err(Trouble::OutOfMemory),
-    }
-}
-
-/// Writes whether the items of a text, and whether the text itself, describe what is built.
-fn write_both(
-    alloc: Global,
-    built: &Built<'_>,
-    text: &[u8],
-    case: &mut Case<'_>,
-) -> Result<(), Trouble> {
+fn write_both(alloc: Global, built: &Built<'_>, text: &[u8], case: &mut Case<'_>) -> Answer {
+    let do_items = match read_items(alloc, text) {
+        Ok(read) => is_described(alloc, built, &read.items)?,
+        Err(ReadError::Refused(_refusal)) => false,
+        Err(ReadError::Memory) => return Err(Trouble::OutOfMemory),
+    };
     case.text("items ");
-    case.yes_or_no(do_items_describe(alloc, built, text)?);
+    case.yes_or_no(do_items);
     case.text(", text ");
     case.yes_or_no(is_description(alloc, built, text)?);
     Ok(())
 }
 
-/// Writes the same for declarations, which must be valid.
-fn write_of(
+/// Writes what a word asks of the description of declarations, which must be valid: `described` whether it makes the same ones, and
+/// describes these too; `describable` whether there is one; and `describes` whether the items of a text, and the text itself, are it.
+pub(crate) fn ask_description(
     alloc: Global,
     declarations: &Declarations,
     text: &[u8],
+    word: &str,
     case: &mut Case<'_>,
-) -> Result<(), Trouble> {
-    write_both(alloc, &built_of(alloc, declarations)?, text, case)
+) -> Answer {
+    if word == "described" {
+        let is_same = comes_back(alloc, declarations)?;
+        case.text(if is_same { "same" } else { "other" });
+        return Ok(());
+    }
+    let built = build_all(alloc, declarations)?;
+    if word == "describes" {
+        return write_both(alloc, &built, text, case);
+    }
+    case.yes_or_no(write_description(alloc, &built)?.is_some());
+    Ok(())
 }
 
-/// Writes whether the items of a text, and whether the text itself, describe what the file declares.
-pub(crate) fn write_describes(
-    alloc: Global,
-    text: &[u8],
-    file: &[u8],
-    case: &mut Case<'_>,
-) -> Result<(), Trouble> {
-    write_of(alloc, &loaded(alloc, file)?, text, case)
-}
-
-/// Whether the description of the declarations that are made from a number comes back in this way.
 fn is_synth_described(alloc: Global, number: u32) -> Result<bool, Trouble> {
     comes_back(alloc, &synth(alloc, number)?)
 }

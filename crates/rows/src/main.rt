@@ -1,5 +1,6 @@
 //! Answers the rows of files of declarations and of the shared declarations. Lines make the text of a file and an input, and ask what words
-//! do with them; `Session` has their words. A line that begins with `#` is copied.
+//! do with them; `Session` has their words. After these rows stand those that only calls of a library can show: a line `%% SUBJECT` begins
+//! the lines of a subject. That line, and one that begins with `#`, are copied.
 #![tactic(auto)]
 
 mod asking;
@@ -7,27 +8,44 @@ mod calls;
 mod declared;
 mod describing;
 mod each;
-mod loads;
 mod patched;
-mod readings;
 mod session;
 mod unfailing;
 
 use meta_shared_ops::define;
 use session::Session;
-use std::io;
+use std::io::{self, Write};
 
-/// Answers the lines of an input on the standard output.
-fn answer(rt: &HostRuntime, session: &mut Session<'_>, input: &str) -> io::Result<()> {
-    for line in input.lines() {
+fn answer_lines(rt: &HostRuntime, lines: &str) -> io::Result<()> {
+    let shared = define(rt.alloc())?;
+    let mut session = Session::new(rt.alloc(), &shared);
+    for line in lines.lines() {
         session.answer_line(rt, line)?;
     }
     Ok(())
 }
 
-/// Answers the lines of the standard input on the standard output.
+/// Answers subjects, whose lines show what only calls of a library can. The line `%% SUBJECT` that begins each goes through unchanged.
+fn answer_subjects(rt: &HostRuntime, subjects: &str) -> io::Result<()> {
+    for part in subjects.split("\n%% ") {
+        let (subject, lines) = part.split_once('\n').unwrap_or((part, ""));
+        let mut answers = String::new(rt.alloc());
+        match subject {
+            "base" => rows_base::add_answers(rt.alloc(), lines, &mut answers),
+            _ => rows_insts::add_answers(rt.alloc(), subject, lines, &mut answers),
+        }?;
+        println!(rt; "%% {subject}")?;
+        io::writer(rt).write_all(answers.as_bytes())?;
+    }
+    Ok(())
+}
+
+/// Answers the lines of the standard input on the standard output, and then its subjects.
 fn main(rt: HostRuntime) -> io::Result<()> {
     let input = io::read_to_string(rt.alloc(), rt.reader())?;
-    let shared = define(rt.alloc())?;
-    answer(&rt, &mut Session::new(rt.alloc(), &shared), &input)
+    let Some((lines, subjects)) = input.split_once("\n%% ") else {
+        return answer_lines(&rt, &input);
+    };
+    answer_lines(&rt, lines)?;
+    answer_subjects(&rt, subjects)
 }

@@ -1,15 +1,15 @@
 use super::asking::{Ran, sum_of, write_over};
-use super::declared::{Declared, ask_declared, declared_by, loaded};
-use super::describing::{write_described, write_describes, write_synths};
-use super::each::Each;
-use super::loads::write_loads;
+use super::declared::{Declared, ask_declared, declared_by};
+use super::describing::write_synths;
+use super::each::{Each, write_loads};
 use super::patched::patched;
 use super::unfailing::write_unfailing;
-use meta_declared::Declarations;
-use rows_words::{Case, Edited, Outside, Trouble, decoded, number, texts_of_words};
+use meta_build::Declarations;
+use rows_base::{Answer, Case, Outside, Trouble, decoded, edited, number, pair_of, texts_of_words};
+use rows_tables::{ask_items, ask_line};
 use std::alloc::{AllocError, Global};
-use std::fs;
 use std::io::{self, Write};
+use std::{fs, str};
 
 /// The room of a sink, if no line gives another.
 const ROOM: usize = 1_048_576;
@@ -18,64 +18,55 @@ const ROOM: usize = 1_048_576;
 ///
 /// **What they are asked over.** `| LINE` adds a line to the text of the file, `with BYTES` adds bytes, `many COUNT BYTES` adds them COUNT
 /// times, with the number of each time for each `%`, and `data NAME` adds what a file holds. After `shared`, words are asked over the
-/// shared declarations. After `clear file`, they are asked over the file again, whose text is then empty.
+/// shared declarations, and after `made SUBJECT LINES` over what the lines of a subject declare. After `clear file`, they are asked over the
+/// file again, whose text is then empty. `apart COUNT` adds instructions whose sets no other has.
 ///
 /// **The input.** `> LINE`, `add BYTES`, `times COUNT BYTES` and `input NAME` add to it in the same ways, and `numbers COUNT FIRST STEP
 /// BYTES` does with other numbers for each `%`. `begin WORDS` replaces the input by what the words write, and `clear input` by nothing. The
-/// lines of `Edited`, which are `drop`, `cut`, `replace` and `all`, edit it, and `patch NAME` makes another input of its lines.
+/// lines of `edited`, which are `drop`, `cut`, `replace` and `all`, edit it, and `patch NAME` makes another input of its lines.
 ///
 /// **Outside.** `file STEP FAIL`, `source STEP FAIL` and `sink ROOM STEP FAIL` say how these behave.
 ///
 /// **What is asked.** `WORDS`, or `WORDS < BYTES` with bytes after the input, writes in one line how a run of the words ends: its status,
 /// what it writes, with escapes, and what it writes on standard error. `run WORDS` writes what the run writes, also on standard error, and
 /// then the status. `sum WORDS` writes the SHA-256 of what the run writes in place of that, and `against NAME WORDS` how that compares with
-/// what a file holds. `handed WORDS` hands what the file declares to the words, even if it has a fault, and writes in one line how they
-/// end. `over WORDS` writes what words are asked over, and `digest` the SHA-256 of the input. `unfailing WORDS` writes the status of a run
-/// over the shared declarations whose source and sink never fail.
+/// what a file holds. `over WORDS` writes what words are asked over, and `digest` the SHA-256 of the input. `unfailing WORDS` writes the
+/// status of a run over the shared declarations whose source and sink never fail. `write` writes the input.
 ///
-/// `fronts` loads each front of the text of the file, and `changes BITS` the text with each byte changed. `described` describes the text,
-/// `describes` writes whether the input does, and `synths COUNT` describes the declarations that are made from numbers.
+/// `fronts` loads each front of the text of the file, and `changes BITS` the text with each byte changed. `synths COUNT` describes the
+/// declarations that are made from numbers.
 ///
-/// `write` writes the input. `reread lines FROM TO`, `reread fronts FROM TO` and `reread changes FROM TO` read the fronts of the input that
-/// end there with a line, all of its fronts there, or the input with each byte there changed. They write how many are no tables, other
-/// tables, or those that are declared. `calls GROUP` makes the calls that the lines of the input name on the settings of a group, `fed`
-/// feeds the lines to a checker, and `shortened` writes their short forms. `audited TIMES` asks the auditor this many times about the
-/// tables in memory, and `generated TIMES` makes the tables this many times.
+/// **What is asked by calls.** `? WORD ..` asks what is declared, even if it has a fault. `? handed WORDS`, `? reads COUNT WORDS` and `?
+/// writes COUNT WORDS` are described at `write_runs`, and others at `ask_description`, `write_written`, `ask_line`, `ask_items` and
+/// `ask_tables`. `? reread lines FROM TO`, `? reread fronts FROM TO` and `? reread changes FROM TO` read the fronts of the input that end
+/// there with a line, all of its fronts there, or the input with each byte there changed. They write how many are no tables, other tables,
+/// or those that are declared. `? calls GROUP` makes the calls that the lines of the input name on the settings of a group, `? fed` feeds
+/// the lines to a checker, and `? shortened` writes their short forms. `? audited TIMES` asks the auditor this many times about the tables
+/// in memory, and `? generated TIMES` makes the tables this many times.
 #[derive(Drop)]
 pub(crate) struct Session<'d> {
     alloc: Global,
     shared: &'d Declarations,
     is_shared: bool,
+    /// What calls declare, which stands in place of the text.
+    own: Option<Declarations>,
     text: Vec<u8>,
     input: Vec<u8>,
     file: Outside,
     outside: Outside,
 }
 
-fn add_line(bytes: &mut Vec<u8>, line: &str) -> Result<(), Trouble> {
+pub(crate) fn add_line(bytes: &mut Vec<u8>, line: &str) -> Answer {
     bytes.extend_from_slice(line.as_bytes())?;
     Ok(bytes.push(b'\n')?)
 }
 
-/// Adds the bytes that a text with escapes stands for.
-fn add_decoded(bytes: &mut Vec<u8>, alloc: Global, text: &str) -> Result<(), Trouble> {
+fn add_decoded(bytes: &mut Vec<u8>, alloc: Global, text: &str) -> Answer {
     Ok(bytes.extend_from_slice(&decoded(alloc, text)?)?)
 }
 
-/// Adds what a file holds.
 fn add_file(bytes: &mut Vec<u8>, rt: &HostRuntime, name: &str) -> io::Result<()> {
     bytes.extend_from_slice(&fs::read(rt, name)?)?;
-    Ok(())
-}
-
-/// Adds bytes, with a number for each `%`.
-fn add_numbered(bytes: &mut Vec<u8>, pattern: &[u8], number: &str) -> Result<(), AllocError> {
-    for byte in pattern {
-        match *byte {
-            b'%' => bytes.extend_from_slice(number.as_bytes())?,
-            _ => bytes.push(*byte)?,
-        }
-    }
     Ok(())
 }
 
@@ -89,25 +80,55 @@ fn add_many(
     let mut number = first;
     for _ in 0..count {
         let shown = format!(in alloc; "{number}")?;
-        add_numbered(bytes, pattern, &shown)?;
+        for byte in pattern {
+            match *byte {
+                b'%' => bytes.extend_from_slice(shown.as_bytes())?,
+                _ => bytes.push(*byte)?,
+            }
+        }
         number = number.saturating_add(step);
     }
     Ok(())
 }
 
-/// The number before the first space, and what stands after it.
+/// Adds instructions `s0`, `s1` and so on of a format `U`. Each has one value, whose set no other instruction has.
+fn add_apart(bytes: &mut Vec<u8>, alloc: Global, count: u16) -> Answer {
+    for number in 0..count {
+        let lanes: (u16, u16) = (1 << (number / 64 % 4), 16 << (number / 16 % 4));
+        let dynamic: (u16, u16) = (2 << (number / 4 % 4), 32 << (number % 4));
+        let ints: (u16, u16) = (8 << (number / 256 % 2), 64 << (number / 512 % 2));
+        let floats: (u16, u16) = (16 << (number / 1024 % 2), 64 << (number / 2048 % 2));
+        let declared = format!(in alloc;
+            "type S{number}: lanes {}..{}, dynamic {}..{}, ints {}..{}, floats {}..{}\ninst s{number}: U(x: S{number})\n",
+            lanes.0, lanes.1, dynamic.0, dynamic.1, ints.0, ints.1, floats.0, floats.1
+        )?;
+        bytes.extend_from_slice(declared.as_bytes())?;
+    }
+    Ok(())
+}
+
+/// What the lines of a subject declare: `SUBJECT LINES`, with escapes.
+fn made(alloc: Global, words: &str) -> Result<Declarations, Trouble> {
+    let (subject, lines) = pair_of(words, ' ')?;
+    let lines = decoded(alloc, lines)?;
+    match str::from_utf8(&lines) {
+        Ok(lines) => rows_insts::declared(alloc, subject, lines),
+        Err(_) => Err(Trouble::NoCase),
+    }
+}
+
 fn number_before(words: &str) -> Result<(u64, &str), Trouble> {
     let (digits, rest) = words.split_once(' ').unwrap_or((words, ""));
     Ok((number(digits)?, rest))
 }
 
 impl<'d> Session<'d> {
-    /// A session with no text and no input, in which nothing fails.
     pub(crate) fn new(alloc: Global, shared: &'d Declarations) -> Session<'d> {
         Session {
             alloc,
             shared,
             is_shared: false,
+            own: None,
             text: Vec::new(alloc),
             input: Vec::new(alloc),
             file: Outside::with_room(0),
@@ -115,51 +136,24 @@ impl<'d> Session<'d> {
         }
     }
 
-    /// Forgets everything.
-    fn begin_anew(&mut self) {
-        self.is_shared = false;
-        self.text.clear();
-        self.input.clear();
-        self.file = Outside::with_room(0);
-        self.outside = Outside::with_room(ROOM);
-    }
-
-    /// Forgets the text of the file, or the input.
-    fn clear(&mut self, part: &str) -> Result<(), Trouble> {
-        match part {
-            "file" => {
-                self.is_shared = false;
-                self.text.clear();
-            }
-            "input" => self.input.clear(),
-            _ => return Err(Trouble::BadLine),
-        }
-        Ok(())
-    }
-
-    /// Adds bytes to the text or the input several times, with numbers from the first on.
-    fn add_times(&mut self, word: &str, numbers: [u64; 3], bytes: &str) -> Result<(), Trouble> {
-        let alloc = self.alloc;
-        let pattern = decoded(alloc, bytes)?;
-        match word {
-            "many" => Ok(add_many(&mut self.text, alloc, numbers, &pattern)?),
-            _ => Ok(add_many(&mut self.input, alloc, numbers, &pattern)?),
-        }
-    }
-
-    /// The same, by the words of the line.
-    fn add_numbers(&mut self, word: &str, rest: &str) -> Result<(), Trouble> {
+    fn add_numbers(&mut self, word: &str, rest: &str) -> Answer {
         let (count, rest) = number_before(rest)?;
-        if word != "numbers" {
-            return self.add_times(word, [count, 0, 1], rest);
+        let (first, step, bytes) = if word == "numbers" {
+            let (first, rest) = number_before(rest)?;
+            let (step, bytes) = number_before(rest)?;
+            (first, step, bytes)
+        } else {
+            (0, 1, rest)
+        };
+        let pattern = decoded(self.alloc, bytes)?;
+        let numbers = [count, first, step];
+        match word {
+            "many" => Ok(add_many(&mut self.text, self.alloc, numbers, &pattern)?),
+            _ => Ok(add_many(&mut self.input, self.alloc, numbers, &pattern)?),
         }
-        let (first, rest) = number_before(rest)?;
-        let (step, bytes) = number_before(rest)?;
-        self.add_times(word, [count, first, step], bytes)
     }
 
-    /// Takes how the file, the source or the sink behaves.
-    fn take_outside(&mut self, line: &str) -> Result<(), Trouble> {
+    fn take_outside(&mut self, line: &str) -> Answer {
         let mut case = Case::of(self.alloc, line)?;
         match case.word() {
             "file" => self.file.take_source(&mut case),
@@ -172,22 +166,9 @@ impl<'d> Session<'d> {
         }
     }
 
-    fn edit(&mut self, line: &str) -> Result<(), Trouble> {
-        let mut edited = Edited::new(self.alloc);
-        edited.begin(&self.input)?;
-        edited.edit(line)?;
-        self.input = edited.input("")?;
-        Ok(())
-    }
-
-    /// What the words write.
-    fn taken(&self, words: &[&str]) -> Result<Vec<u8>, Trouble> {
-        Ok(self.ran(words, "")?.done()?.to_vec(self.alloc)?)
-    }
-
-    /// Replaces the input by what the words write.
-    fn begin_input(&mut self, words: &str) -> Result<(), Trouble> {
-        self.input = self.taken(Case::of(self.alloc, words)?.rest())?;
+    fn begin_input(&mut self, words: &str) -> Answer {
+        let ran = self.ran(Case::of(self.alloc, words)?.rest(), "")?;
+        self.input = ran.done()?.to_vec(self.alloc)?;
         Ok(())
     }
 
@@ -195,75 +176,91 @@ impl<'d> Session<'d> {
     fn make(&mut self, line: &str) -> Result<bool, Trouble> {
         let (word, rest) = line.split_once(' ').unwrap_or((line, ""));
         match word {
-            "new" => self.begin_anew(),
+            "new" => *self = Session::new(self.alloc, self.shared),
             "shared" => self.is_shared = true,
-            "clear" => self.clear(rest)?,
+            "clear" if rest == "input" => self.input.clear(),
+            "clear" => {
+                self.is_shared = false;
+                self.own = None;
+                self.text.clear();
+            }
             "|" => add_line(&mut self.text, rest)?,
             ">" => add_line(&mut self.input, rest)?,
             "with" => add_decoded(&mut self.text, self.alloc, rest)?,
             "add" => add_decoded(&mut self.input, self.alloc, rest)?,
+            "apart" => add_apart(&mut self.text, self.alloc, number(rest)?)?,
+            "made" => self.own = Some(made(self.alloc, rest)?),
             "many" | "times" | "numbers" => self.add_numbers(word, rest)?,
             "begin" => self.begin_input(rest)?,
-            "drop" | "cut" | "replace" | "all" => self.edit(line)?,
+            "drop" | "cut" | "replace" | "all" => {
+                self.input = edited(self.alloc, &self.input, line)?;
+            }
             "file" | "source" | "sink" => self.take_outside(line)?,
             _ => return Ok(false),
         }
         Ok(true)
     }
 
-    /// Makes another input of the lines of the input, as the patch in a file says.
     fn patch(&mut self, rt: &HostRuntime, name: &str) -> io::Result<()> {
-        let patch = fs::read(rt, name)?;
-        match patched(self.alloc, &self.input, &patch) {
-            Ok(text) => {
-                self.input = text;
-                Ok(())
-            }
-            Err(_) => println!(rt; "no case"),
+        match patched(self.alloc, &self.input, &fs::read(rt, name)?) {
+            Ok(text) => self.input = text,
+            Err(_) => println!(rt; "no case")?,
         }
+        Ok(())
     }
 
-    /// What words are asked over.
     fn declared(&self) -> Declared<'_> {
         if self.is_shared {
             return Declared::Made(self.shared);
         }
+        if let Some(own) = self.own.as_ref() {
+            return Declared::Made(own);
+        }
         Declared::File(self.file, &self.text)
     }
 
-    /// The input, and bytes after it.
     fn input_with(&self, after: &str) -> Result<Vec<u8>, Trouble> {
         let mut input = self.input.to_vec(self.alloc)?;
         add_decoded(&mut input, self.alloc, after)?;
         Ok(input)
     }
 
-    /// What the words do over these declarations, with bytes after the input.
-    fn ran_over(
-        &self,
-        declared: Declared<'_>,
-        words: &[&str],
-        after: &str,
-    ) -> Result<Ran, Trouble> {
+    fn ran(&self, words: &[&str], after: &str) -> Result<Ran, Trouble> {
         let words = texts_of_words(self.alloc, words)?;
         let input = self.input_with(after)?;
-        Ran::of(self.alloc, &words, declared, self.outside, &input)
+        Ran::of(self.alloc, &words, self.declared(), self.outside, &input)
     }
 
-    /// The same, over the declarations that the lines give.
-    fn ran(&self, words: &[&str], after: &str) -> Result<Ran, Trouble> {
-        self.ran_over(self.declared(), words, after)
-    }
-
-    /// Writes what the words that are left do over what the file declares, which may have a fault.
-    fn write_handed(&self, after: &str, case: &mut Case<'_>) -> Result<(), Trouble> {
-        let declarations = declared_by(self.alloc, &self.text)?;
-        let ran = self.ran_over(Declared::Made(&declarations), case.rest(), after)?;
-        ran.write_line(case);
+    /// Writes in one line how the words that are left end over declarations, also such as have a fault, and the next byte of the source, if
+    /// one was left. `reads COUNT WORDS` and `writes COUNT WORDS` make COUNT runs, numbered from 0. In each the read or the write with the
+    /// number of the run fails. Calls are numbered from 1, so no call fails in the first run.
+    fn write_runs(
+        &self,
+        declarations: &Declarations,
+        word: &str,
+        input: &[u8],
+        case: &mut Case<'_>,
+    ) -> Answer {
+        let count: u64 = if word == "handed" { 1 } else { case.number() };
+        let words = texts_of_words(self.alloc, case.rest())?;
+        let mut outside = self.outside;
+        for failing in 0..count {
+            match word {
+                "reads" => outside.failing_read = failing,
+                "writes" => outside.failing_write = failing,
+                _ => {}
+            }
+            if failing > 0 {
+                case.text("; ");
+            }
+            let declared = Declared::Made(declarations);
+            let ran = Ran::of(self.alloc, &words, declared, outside, input)?;
+            ran.write_line(case);
+            ran.write_left(case);
+        }
         Ok(())
     }
 
-    /// Runs the words that are left, and writes what they write, its SHA-256, or how it compares with what a file holds.
     fn write_ran(
         &self,
         rt: &HostRuntime,
@@ -275,61 +272,66 @@ impl<'d> Session<'d> {
         if word == "against" && !case.has_more() {
             return println!(rt; "no case");
         }
-        let Ok(ran) = self.ran(case.rest(), after) else {
-            return println!(rt; "no case");
-        };
-        match word {
-            "run" => ran.write(rt),
-            "sum" => ran.write_sum(rt),
-            _ => ran.write_against(rt, name),
+        match self.ran(case.rest(), after) {
+            Ok(ran) => ran.write(rt, word, name),
+            Err(_) => println!(rt; "no case"),
         }
     }
 
-    /// Writes what a word asks of declarations, or of their tables and the input.
-    fn ask_declared(&self, word: &str, case: &mut Case<'_>) -> Result<(), Trouble> {
-        let (alloc, outside) = (self.alloc, self.outside);
-        match self.declared() {
-            Declared::Made(declarations) => {
-                ask_declared(alloc, outside, declarations, &self.input, word, case)
+    fn ask_made(
+        &self,
+        declarations: &Declarations,
+        word: &str,
+        input: &[u8],
+        case: &mut Case<'_>,
+    ) -> Answer {
+        match word {
+            "handed" | "reads" | "writes" => self.write_runs(declarations, word, input, case),
+            _ => ask_declared(self.alloc, self.outside, declarations, input, word, case),
+        }
+    }
+
+    /// Writes what a word asks by calls: of the input, of the text of the file, or of what is declared, even if it has a fault.
+    fn ask_calls(&self, word: &str, input: &[u8], case: &mut Case<'_>) -> Answer {
+        match word {
+            "codes" | "lines" | "count" | "question" | "meant" => {
+                ask_line(self.alloc, word, input, case)
             }
-            Declared::File(_, text) => {
-                let declarations = loaded(alloc, text)?;
-                ask_declared(alloc, outside, &declarations, &self.input, word, case)
+            "tokens" | "items" | "declares" | "format" => {
+                ask_items(self.alloc, word, &self.text, case)
             }
+            _ => match self.declared() {
+                Declared::Made(declarations) => self.ask_made(declarations, word, input, case),
+                Declared::File(_, text) => {
+                    self.ask_made(&declared_by(self.alloc, text)?, word, input, case)
+                }
+            },
         }
     }
 
     /// Writes the answer to the words of a line, which read no file, with bytes after the input.
-    fn answer(&self, word: &str, after: &str, case: &mut Case<'_>) -> Result<(), Trouble> {
+    fn answer(&self, word: &str, after: &str, case: &mut Case<'_>) -> Answer {
         let alloc = self.alloc;
         match word {
-            "over" => write_over(alloc, case),
-            "digest" => {
-                case.text(sum_of(alloc, &self.input)?.as_str());
-                Ok(())
+            "?" => {
+                let asked = self.ask_calls(case.word(), &self.input_with(after)?, case);
+                case.close(asked);
             }
-            "handed" => self.write_handed(after, case),
-            "unfailing" => write_unfailing(alloc, self.shared, self.input_with(after)?, case),
-            "fronts" => write_loads(alloc, &self.text, Each::Front, case),
+            "over" => write_over(alloc, case)?,
+            "digest" => case.text(sum_of(alloc, &self.input)?.as_str()),
+            "unfailing" => write_unfailing(alloc, self.shared, self.input_with(after)?, case)?,
+            "fronts" => write_loads(alloc, &self.text, Each::Front, case)?,
             "changes" => {
                 let bits = case.number();
-                write_loads(alloc, &self.text, Each::Change(bits), case)
+                write_loads(alloc, &self.text, Each::Change(bits), case)?;
             }
-            "described" => write_described(alloc, &self.text, case),
-            "describes" => write_describes(alloc, &self.input, &self.text, case),
-            "synths" => {
-                write_synths(alloc, case);
-                Ok(())
-            }
-            "reread" | "calls" | "fed" | "shortened" | "audited" | "generated" => {
-                self.ask_declared(word, case)
-            }
+            "synths" => write_synths(alloc, case),
             _ => {
                 case.go_back(0);
                 self.ran(case.rest(), after)?.write_line(case);
-                Ok(())
             }
         }
+        Ok(())
     }
 
     /// Writes the answer to the words of a line, or the word for its trouble, and a line feed.
@@ -348,7 +350,6 @@ impl<'d> Session<'d> {
         io::writer(rt).write_all(answer.as_bytes())
     }
 
-    /// Writes the answer to a line that asks, or adds what a file holds.
     fn ask(&mut self, rt: &HostRuntime, after: &str, case: &mut Case<'_>) -> io::Result<()> {
         match case.word() {
             "data" => add_file(&mut self.text, rt, case.word()),

@@ -1,14 +1,13 @@
 ghost use Rattle.std.specs.Prelude.{◌≢◌};
 ghost use Rattle.meta_run.specs.declared.ending.Ending.{Ending as Status};
 
-use meta_declared::Declarations;
+use meta_build::Declarations;
 use meta_query::{Status, run};
 use meta_text::NeverFails;
 use meta_types::Text;
-use rows_words::{Case, Trouble, texts_of_words};
+use rows_base::{Answer, Case, texts_of_words};
 use std::alloc::Global;
 
-/// Runs these words over a source of an input and a sink that never fail.
 fn run_unfailing(
     alloc: Global,
     words: &[Text],
@@ -21,13 +20,12 @@ fn run_unfailing(
     run(alloc, words, declarations, source, sink)
 }
 
-/// Writes the status of a run of the words that are left, over a source and a sink that never fail.
 pub(crate) fn write_unfailing(
     alloc: Global,
     declarations: &Declarations,
     input: Vec<u8>,
     case: &mut Case<'_>,
-) -> Result<(), Trouble> {
+) -> Answer {
     let mut source = NeverFails::new(input);
     let mut sink = NeverFails::new(Vec::new(alloc));
     let words = texts_of_words(alloc, case.rest())?;

@@ -1,26 +1,18 @@
-use meta_types::{EarlierNames, Text, camel_case, is_name};
-use rows_words::{Case, Trouble, hash_of, pair_of, texts_of};
-use std::alloc::{AllocError, Global};
+use super::case::Case;
+use super::trouble::Answer;
+use super::words::{hash_of, pair_of, texts_of};
+use meta_types::{EarlierNames, Text, camel_case};
+use std::alloc::Global;
 use std::cmp::Ordering;
 
-pub(crate) fn write_camel_case(
-    alloc: Global,
-    name: &str,
-    case: &mut Case<'_>,
-) -> Result<(), Trouble> {
+pub(crate) fn write_camel_case(alloc: Global, name: &str, case: &mut Case<'_>) -> Answer {
     let name = Text::new(alloc, name)?;
     case.made(camel_case(alloc, &name));
     Ok(())
 }
 
-pub(crate) fn write_is_name(alloc: Global, text: &str, case: &mut Case<'_>) -> Result<(), Trouble> {
-    let text = Text::new(alloc, text)?;
-    case.yes_or_no(is_name(&text));
-    Ok(())
-}
-
 /// Writes, for each name of a list, the place of the first earlier name that is the same or has the same camel case, or `-`.
-pub(crate) fn write_earlier(alloc: Global, case: &mut Case<'_>) -> Result<(), Trouble> {
+pub(crate) fn write_earlier(alloc: Global, case: &mut Case<'_>) -> Answer {
     let texts = texts_of(alloc, case.word(), "")?;
     let mut names = EarlierNames::new(alloc);
     for name in &texts {
@@ -35,25 +27,17 @@ pub(crate) fn write_earlier(alloc: Global, case: &mut Case<'_>) -> Result<(), Tr
 
 /// Compares two texts. Writes a copy of the first, whether it equals the first, how the two are ordered, whether they are equal, whether
 /// the first has the hash of its `str`, and whether the two have one hash.
-pub(crate) fn write_pair(alloc: Global, pair: &str, case: &mut Case<'_>) -> Result<(), Trouble> {
+pub(crate) fn write_pair(alloc: Global, pair: &str, case: &mut Case<'_>) -> Answer {
     let (text, other) = pair_of(pair, ',')?;
     let text = Text::new(alloc, text)?;
-    write_copied(alloc, &text, case)?;
+    let copy = text.copy(alloc)?;
+    case.text(copy.as_str());
+    case.letter('|');
+    case.yes_or_no(text == copy);
     write_compared(&text, &Text::new(alloc, other)?, case);
     Ok(())
 }
 
-/// Writes a copy of a text, and whether it equals the text.
-fn write_copied(alloc: Global, text: &Text, case: &mut Case<'_>) -> Result<(), AllocError> {
-    let copy = text.copy(alloc)?;
-    case.text(copy.as_str());
-    case.letter('|');
-    case.yes_or_no(*text == copy);
-    Ok(())
-}
-
-/// Writes how two texts are ordered, whether they are equal, whether the first has the hash of its `str`, and whether the two have one
-/// hash.
 fn write_compared(text: &Text, other: &Text, case: &mut Case<'_>) {
     case.text(match text.cmp(other) {
         Ordering::Less => "|less|",

@@ -1,27 +1,36 @@
+use super::case::Case;
+use super::escapes::decoded;
+use super::trouble::{Answer, Trouble};
+use super::words::{function_named, number, pair_of, type_of};
 use meta_types::{
-    DynamicVectorType, FloatIterator, IntIterator, LaneType, LaneTypeIterator, Text, ValueType,
-    VectorType, is_float_width, is_int_width, is_lane_count,
+    DerivedFunc, DynamicVectorType, FloatIterator, IntIterator, LaneType, LaneTypeIterator, Text,
+    ValueType, VectorType, is_float_width, is_int_width, is_lane_count,
 };
-use rows_words::{Case, Trouble, decoded, type_of};
 use std::alloc::{AllocError, Global};
 use std::fmt::Display;
 
-/// Begins a row: a value, and numbers after it.
-fn begin_row<T: Display>(value: &T, numbers: &[u64], case: &mut Case<'_>) {
+/// Writes the name of what has a number, further numbers, the type of its lanes, if it has lanes, and a text.
+fn write_facts<T: Display>(
+    value: &T,
+    numbers: &[u64],
+    lane: Option<LaneType>,
+    text: Result<Text, AllocError>,
+    case: &mut Case<'_>,
+) {
     case.shown(value);
     for number in numbers {
         case.field("|", number);
     }
-}
-
-fn add_to_row(text: Result<Text, AllocError>, case: &mut Case<'_>) {
+    if let Some(lane) = lane {
+        case.field("|", &lane);
+    }
     case.letter('|');
     case.made(text);
 }
 
 /// Writes all facts of the type of a name, which may have escapes: its own name, number, lane bits, lane count, width, bytes in memory,
 /// name in Rust source and documentation.
-pub(crate) fn write_type(alloc: Global, case: &mut Case<'_>) -> Result<(), Trouble> {
+pub(crate) fn write_type(alloc: Global, case: &mut Case<'_>) -> Answer {
     let name = decoded(alloc, case.word())?;
     let Some(t) = ValueType::parse(&name) else {
         case.text("none");
@@ -38,35 +47,31 @@ pub(crate) fn write_type(alloc: Global, case: &mut Case<'_>) -> Result<(), Troub
         t.width(),
         t.membytes(),
     ];
-    begin_row(&t, &numbers, case);
-    add_to_row(t.rust_name(alloc), case);
-    add_to_row(t.doc(alloc), case);
+    write_facts(&t, &numbers, None, t.rust_name(alloc), case);
+    case.letter('|');
+    case.made(t.doc(alloc));
     Ok(())
 }
 
-/// Writes the name of the type of a number.
-pub(crate) fn write_number(case: &mut Case<'_>) -> Result<(), Trouble> {
+/// Writes the type of a number, or how many numbers are numbers of types.
+pub(crate) fn write_numbers(are_counted: bool, case: &mut Case<'_>) {
+    if are_counted {
+        let mut count = 0u32;
+        for number in 0..=u16::MAX {
+            if ValueType::from_number(number).is_some() {
+                count = count.saturating_add(1);
+            }
+        }
+        case.shown(&count);
+        return;
+    }
     match ValueType::from_number(case.number()) {
         Some(t) => case.shown(&t),
         None => case.text("none"),
     }
-    Ok(())
 }
 
-/// Writes how many numbers are numbers of types.
-pub(crate) fn write_numbers(case: &mut Case<'_>) -> Result<(), Trouble> {
-    let mut count = 0u32;
-    for number in 0..=u16::MAX {
-        if ValueType::from_number(number).is_some() {
-            count = count.saturating_add(1);
-        }
-    }
-    case.shown(&count);
-    Ok(())
-}
-
-/// Writes a type as `Debug` shows it.
-pub(crate) fn write_debug(case: &mut Case<'_>) -> Result<(), Trouble> {
+pub(crate) fn write_debug(case: &mut Case<'_>) -> Answer {
     match type_of(case.word())? {
         ValueType::Lane(lane) => case.debugged(&lane),
         ValueType::Vector(vector) => case.debugged(&vector),
@@ -75,135 +80,164 @@ pub(crate) fn write_debug(case: &mut Case<'_>) -> Result<(), Trouble> {
     Ok(())
 }
 
-/// Takes a lane by its name.
-fn lane_of(case: &mut Case<'_>) -> Result<LaneType, Trouble> {
-    match type_of(case.word())? {
-        ValueType::Lane(lane) => Ok(lane),
-        _ => Err(Trouble::NoCase),
-    }
-}
-
 /// Writes the facts of a lane: name, number, lane bits and documentation.
 fn write_lane(alloc: Global, lane: LaneType, case: &mut Case<'_>) {
     let numbers = [lane.number().into(), lane.lane_bits()];
-    begin_row(&lane, &numbers, case);
-    add_to_row(lane.doc(alloc), case);
+    write_facts(&lane, &numbers, None, lane.doc(alloc), case);
 }
 
 /// Writes the facts of the lane of this many bits, an `int` or a `float`.
-pub(crate) fn write_scalar(alloc: Global, sort: &str, case: &mut Case<'_>) -> Result<(), Trouble> {
+pub(crate) fn write_scalar(alloc: Global, sort: &str, case: &mut Case<'_>) {
     let bits = case.number();
     let lane = match sort {
         "int" if is_int_width(bits) => LaneType::int_from_bits(bits),
         "float" if is_float_width(bits) => LaneType::float_from_bits(bits),
         _ => {
             case.text("none");
-            return Ok(());
+            return;
         }
     };
     write_lane(alloc, lane, case);
-    Ok(())
 }
 
-/// Writes the facts of a type with this count of lanes. For one lane they are those of the lane itself, and else the name of the vector,
-/// its number, lane bits, lane count, lane and documentation.
-pub(crate) fn write_by(alloc: Global, case: &mut Case<'_>) -> Result<(), Trouble> {
-    let (lane, lanes) = (lane_of(case)?, case.number::<u16>());
-    if lanes == 1 {
-        if lane.by(1) != ValueType::from(lane) {
+/// Writes the facts of a vector of this count of lanes, or of a dynamic one of at least this count: name, number, lane bits, count of lanes,
+/// lane and documentation. Of one lane they are those of the lane itself.
+pub(crate) fn write_vector(alloc: Global, is_dynamic: bool, case: &mut Case<'_>) -> Answer {
+    let ValueType::Lane(lane) = type_of(case.word())? else {
+        return Err(Trouble::NoCase);
+    };
+    let lanes = case.number::<u16>();
+    if lanes == 1 && !is_dynamic && lane.by(1) == ValueType::from(lane) {
+        write_lane(alloc, lane, case);
+    } else if !is_lane_count(lanes.into()) {
+        case.text("none");
+    } else if is_dynamic {
+        let vector = DynamicVectorType::new(lane, lanes.into());
+        if lane.to_dynamic(lanes) != ValueType::from(vector) {
             return Err(Trouble::Differ);
         }
-        write_lane(alloc, lane, case);
-        return Ok(());
-    }
-    if !is_lane_count(lanes.into()) {
-        case.text("none");
-        return Ok(());
-    }
-    let vector = VectorType::new(lane, lanes.into());
-    if lane.by(lanes) != ValueType::from(vector) {
-        return Err(Trouble::Differ);
-    }
-    let number = vector.number().into();
-    begin_row(
-        &vector,
-        &[number, vector.lane_bits(), vector.lane_count()],
-        case,
-    );
-    case.field("|", &vector.lane_type());
-    add_to_row(vector.doc(alloc), case);
-    Ok(())
-}
-
-/// Writes the facts of the dynamic vector of at least this count of lanes of a type: name, number, lane bits, least lane count, lane and
-/// documentation.
-pub(crate) fn write_dynamic(alloc: Global, case: &mut Case<'_>) -> Result<(), Trouble> {
-    let (lane, lanes) = (lane_of(case)?, case.number::<u16>());
-    if !is_lane_count(lanes.into()) {
-        case.text("none");
-        return Ok(());
-    }
-    let vector = DynamicVectorType::new(lane, lanes.into());
-    if lane.to_dynamic(lanes) != ValueType::from(vector) {
-        return Err(Trouble::Differ);
-    }
-    let (number, least) = (vector.number().into(), vector.minimum_lane_count());
-    begin_row(&vector, &[number, vector.lane_bits(), least], case);
-    case.field("|", &vector.lane_type());
-    add_to_row(vector.doc(alloc), case);
-    Ok(())
-}
-
-/// Writes a lane that an iterator gave, or that it gave none.
-fn write_given(lane: Option<LaneType>, case: &mut Case<'_>) {
-    match lane {
-        Some(lane) => {
-            case.shown(&lane);
-            case.letter(' ');
+        let (number, least) = (vector.number().into(), vector.minimum_lane_count());
+        let numbers = [number, vector.lane_bits(), least];
+        let doc = vector.doc(alloc);
+        write_facts(&vector, &numbers, Some(vector.lane_type()), doc, case);
+    } else {
+        let vector = VectorType::new(lane, lanes.into());
+        if lane.by(lanes) != ValueType::from(vector) {
+            return Err(Trouble::Differ);
         }
-        None => case.text("end"),
-    }
-}
-
-/// Writes the lanes that the iterator gives, and what it gives after them.
-pub(crate) fn write_lanes(mut lanes: LaneTypeIterator, case: &mut Case<'_>) -> Result<(), Trouble> {
-    for _ in 0..10 {
-        write_given(lanes.next(), case);
+        let (number, count) = (vector.number().into(), vector.lane_count());
+        let numbers = [number, vector.lane_bits(), count];
+        let doc = vector.doc(alloc);
+        write_facts(&vector, &numbers, Some(vector.lane_type()), doc, case);
     }
     Ok(())
 }
 
-/// Writes the integers that their iterator gives, and what it gives after them.
-pub(crate) fn write_ints(case: &mut Case<'_>) -> Result<(), Trouble> {
-    let mut ints = IntIterator::new();
-    for _ in 0..6 {
-        write_given(ints.next().map(LaneType::from), case);
+/// Writes the lanes that an iterator gives, and what it gives after them.
+pub(crate) fn write_lanes(asked: &str, case: &mut Case<'_>) {
+    let mut lanes = match asked {
+        "lane_types" => LaneTypeIterator::new(),
+        _ => ValueType::all_lane_types(),
+    };
+    let (mut ints, mut floats) = (IntIterator::new(), FloatIterator::new());
+    let count = match asked {
+        "ints" => 6,
+        "floats" => 5,
+        _ => 10,
+    };
+    for _ in 0..count {
+        let given = match asked {
+            "ints" => ints.next().map(LaneType::from),
+            "floats" => floats.next().map(LaneType::from),
+            _ => lanes.next(),
+        };
+        match given {
+            Some(lane) => {
+                case.shown(&lane);
+                case.letter(' ');
+            }
+            None => case.text("end"),
+        }
     }
-    Ok(())
 }
 
-/// Writes the floats that their iterator gives, and what it gives after them.
-pub(crate) fn write_floats(case: &mut Case<'_>) -> Result<(), Trouble> {
-    let mut floats = FloatIterator::new();
-    for _ in 0..5 {
-        write_given(floats.next().map(LaneType::from), case);
+/// Writes whether a number is a count of lanes, or all counts below 1000.
+pub(crate) fn write_lane_counts(asked: &str, case: &mut Case<'_>) {
+    if asked == "lane_count" {
+        let lanes = case.number();
+        case.yes_or_no(is_lane_count(lanes));
+        return;
     }
-    Ok(())
-}
-
-/// Writes whether a vector may have this count of lanes.
-pub(crate) fn write_is_lane_count(case: &mut Case<'_>) -> Result<(), Trouble> {
-    let lanes = case.number();
-    case.yes_or_no(is_lane_count(lanes));
-    Ok(())
-}
-
-/// Writes the counts of lanes below 1000.
-pub(crate) fn write_lane_counts(case: &mut Case<'_>) -> Result<(), Trouble> {
     for lanes in 0u64..1000 {
         if is_lane_count(lanes) {
             case.separate(' ');
             case.shown(&lanes);
+        }
+    }
+}
+
+/// More than the greatest number of a type.
+const NUMBERS: u16 = 512;
+
+/// Writes where the function of this name leads from the types whose names are a lane and this ending, lane by lane.
+pub(crate) fn write_row(alloc: Global, name: &str, ending: &str, case: &mut Case<'_>) -> Answer {
+    let func = function_named(name)?;
+    for lane in ValueType::all_lane_types() {
+        case.separate(' ');
+        write_related(func, type_of_lane(alloc, lane, ending)?, case);
+    }
+    Ok(())
+}
+
+fn type_of_lane(alloc: Global, lane: LaneType, ending: &str) -> Result<ValueType, Trouble> {
+    let name = format!(in alloc; "{lane}{ending}")?;
+    type_of(name.as_str())
+}
+
+/// Writes the types that the function relates to the type. There is one, to which it leads, but for the two relations, which may relate
+/// several and lead nowhere. For types and for their numbers the answers have to agree.
+fn write_related(func: DerivedFunc, from: ValueType, case: &mut Case<'_>) {
+    let led_to = func.apply(from);
+    let leads = !matches!(func, DerivedFunc::Narrower | DerivedFunc::Wider) || led_to.is_some();
+    let mut agree = func.apply_number(from.number()) == led_to.map(|to| to.number());
+    let start = case.written();
+    for number in 0..NUMBERS {
+        let to = ValueType::from_number(number);
+        let is_related = match to {
+            Some(to) => func.relates(from, to),
+            None => false,
+        };
+        if is_related != func.relates_number(from.number(), number) {
+            agree = false;
+        }
+        let Some(to) = to else {
+            continue;
+        };
+        if leads && is_related != (led_to == Some(to)) {
+            agree = false;
+        }
+        if is_related {
+            case.item(start, "");
+            case.shown(&to);
+        }
+    }
+    case.end_list(start);
+    if !agree {
+        case.refuse(Trouble::Differ);
+    }
+}
+
+/// Writes, for the function of the first word, where it leads from each number, or whether it relates the numbers of each pair.
+pub(crate) fn write_of_numbers(are_pairs: bool, words: &str, case: &mut Case<'_>) -> Answer {
+    let (name, items) = pair_of(words, ' ')?;
+    let func = function_named(name)?;
+    for item in items.split(' ') {
+        case.separate(' ');
+        if are_pairs {
+            let (from, to) = pair_of(item, ',')?;
+            case.yes_or_no(func.relates_number(number(from)?, number(to)?));
+        } else {
+            case.number_or_dash(func.apply_number(number(item)?));
         }
     }
     Ok(())

@@ -3,11 +3,10 @@ use crate::variables::Variables;
 use meta_operands::{
     FormatId, FormatStructure, FormatTable, InstructionFormat, InstructionFormatBuilder,
 };
-use rows_words::{Case, Trouble, found};
+use rows_base::{Answer, Case, Trouble, found};
 use std::alloc::Global;
 use std::collections::HashSet;
 
-/// Writes what the structure of a format shows: its counts, its value list, and the names and types of its immediate fields.
 fn write_structure(structure: &FormatStructure, case: &mut Case<'_>) {
     case.field("vals=", &structure.num_value_operands);
     case.field(" list=", &structure.has_value_list);
@@ -37,19 +36,16 @@ fn write_fields(format: &InstructionFormat, variables: &Variables<'_>, case: &mu
     }
 }
 
-/// A table of formats.
 #[derive(Drop)]
 pub(crate) struct Formats<'l> {
     alloc: Global,
     pub(crate) table: FormatTable,
     /// Formats by their names. A name outlives its table.
     ids: Vec<(&'l str, FormatId)>,
-    /// The structures that were inserted.
     structures: HashSet<FormatStructure>,
 }
 
 impl<'l> Formats<'l> {
-    /// An empty table.
     pub(crate) fn new(alloc: Global) -> Formats<'l> {
         Formats {
             alloc,
@@ -65,11 +61,13 @@ impl<'l> Formats<'l> {
         case.field("formats ", &self.table.len());
     }
 
-    fn add(
+    /// Adds a format to the table, and writes its number, its text, whether it has a value list, and what it designates.
+    pub(crate) fn declare(
         &mut self,
         name: &'l str,
         builder: InstructionFormatBuilder,
-    ) -> Result<FormatId, Trouble> {
+        case: &mut Case<'_>,
+    ) -> Answer {
         if !self.table.has_room() {
             return Err(Trouble::NoCase);
         }
@@ -77,17 +75,6 @@ impl<'l> Formats<'l> {
         if self.ids.push((name, id)).is_err() {
             return Err(Trouble::OutOfMemory);
         }
-        Ok(id)
-    }
-
-    /// Adds a format to the table, and writes its number, its text, whether it has a value list, and what it designates.
-    pub(crate) fn declare(
-        &mut self,
-        name: &'l str,
-        builder: InstructionFormatBuilder,
-        case: &mut Case<'_>,
-    ) -> Result<(), Trouble> {
-        let id = self.add(name, builder)?;
         let format = self.format_at(id)?;
         case.shown(&id.number());
         case.field(" ", format);
@@ -100,12 +87,10 @@ impl<'l> Formats<'l> {
         Ok(())
     }
 
-    /// The number of the format that the next word names.
     pub(crate) fn next_id(&self, case: &mut Case<'_>) -> Result<FormatId, Trouble> {
         found(&self.ids, case.word())
     }
 
-    /// The format of this number, if the table has it.
     fn format_at(&self, id: FormatId) -> Result<&InstructionFormat, Trouble> {
         if !self.table.is_of(id) {
             return Err(Trouble::NoCase);
@@ -113,49 +98,40 @@ impl<'l> Formats<'l> {
         Ok(self.table.get(id))
     }
 
-    /// The format that the next word names.
     fn next(&self, case: &mut Case<'_>) -> Result<&InstructionFormat, Trouble> {
         self.format_at(self.next_id(case)?)
     }
 
-    /// `alike ONE OTHER`: whether two formats have one structure.
-    fn write_alike(&self, case: &mut Case<'_>) -> Result<(), Trouble> {
-        let (one, other) = (self.next(case)?, self.next(case)?);
-        let structure = one.structure(self.alloc)?;
-        case.shown(&(structure == other.structure(self.alloc)?));
-        Ok(())
-    }
-
     /// `insert_structure NAME`: whether the structure of a format is new among those that were inserted, or known.
-    pub(crate) fn insert_structure(&mut self, case: &mut Case<'_>) -> Result<(), Trouble> {
+    pub(crate) fn insert_structure(&mut self, case: &mut Case<'_>) -> Answer {
         let structure = self.next(case)?.structure(self.alloc)?;
         let is_new = self.structures.insert(structure)?;
         case.text(if is_new { "new" } else { "known" });
         Ok(())
     }
 
-    /// `order ONE OTHER`: whether the number of a format is less than another, and whether it is equal.
-    fn write_order(&self, case: &mut Case<'_>) -> Result<(), Trouble> {
-        let (one, other) = (self.next_id(case)?, self.next_id(case)?);
-        case.field("less ", &(one < other));
-        case.field(" equal ", &(one == other));
-        Ok(())
-    }
-
     /// Writes the answer to `fields NAME`; `structure NAME`, what the structure of a format shows; `alike ONE OTHER`, whether two
-    /// formats have one structure; `order ONE OTHER`; and `has NAME`, how many formats the table has, and whether it has the one of this
-    /// number.
+    /// formats have one structure; `order ONE OTHER`, whether the number of a format is less than another, and whether it is equal; and
+    /// `has NAME`, how many formats the table has, and whether it has the one of this number.
     pub(crate) fn write_asked(
         &self,
         word: &str,
         variables: &Variables<'_>,
         case: &mut Case<'_>,
-    ) -> Result<(), Trouble> {
+    ) -> Answer {
         match word {
             "fields" => write_fields(self.next(case)?, variables, case),
             "structure" => write_structure(&self.next(case)?.structure(self.alloc)?, case),
-            "alike" => return self.write_alike(case),
-            "order" => return self.write_order(case),
+            "alike" => {
+                let (one, other) = (self.next(case)?, self.next(case)?);
+                let structure = one.structure(self.alloc)?;
+                case.shown(&(structure == other.structure(self.alloc)?));
+            }
+            "order" => {
+                let (one, other) = (self.next_id(case)?, self.next_id(case)?);
+                case.field("less ", &(one < other));
+                case.field(" equal ", &(one == other));
+            }
             "has" => {
                 let id = self.next_id(case)?;
                 case.shown(&self.table.len());

@@ -1,70 +1,18 @@
-use crate::compared::{write_alike, write_which};
-use crate::group::{preset_of, write_bytes, write_names, write_presets, write_setting};
 use crate::named::{named_in_order, nothing_named};
-use crate::words::{text_of, texts};
+use crate::words::{text_of, texts, write_prose};
+use meta_build::Declarations;
+use meta_inst::AllInstructions;
+use meta_operands::FormatTable;
 use meta_settings::{
-    BoolSettingIndex, PresetIndex, PresetType, SettingGroup, SettingGroupBuilder, TargetIsa,
+    Preset, PresetType, Setting, SettingGroup, SettingGroupBuilder, SpecificSetting, TargetIsa,
+    ValueNames,
 };
 use meta_types::Text;
-use rows_words::{Answering, Case, Trouble, named, number, texts_of};
+use meta_typevar::TypeVars;
+use rows_base::{Answer, Answering, Case, Trouble, hash_of, named, number, texts_of};
 use std::alloc::{AllocError, Global};
-
-/// Adds a boolean with this name, description and comment to a group.
-fn add_bool(
-    alloc: Global,
-    group: &mut SettingGroupBuilder,
-    told: [&str; 3],
-    default: bool,
-) -> Result<BoolSettingIndex, Trouble> {
-    if !group.has_room() {
-        return Err(Trouble::NoCase);
-    }
-    let (name, description, comment) = texts(alloc, told)?;
-    Ok(group.add_bool(name, description, comment, default)?)
-}
-
-/// Adds a number to a group.
-fn add_num(
-    alloc: Global,
-    group: &mut SettingGroupBuilder,
-    told: [&str; 3],
-    default: u8,
-) -> Result<(), Trouble> {
-    if !group.has_room() {
-        return Err(Trouble::NoCase);
-    }
-    let (name, description, comment) = texts(alloc, told)?;
-    Ok(group.add_num(name, description, comment, default)?)
-}
-
-/// Adds an enum of these values, which are separated by commas, to a group.
-fn add_enum(
-    alloc: Global,
-    group: &mut SettingGroupBuilder,
-    told: [&str; 3],
-    values: &str,
-) -> Result<(), Trouble> {
-    if !group.has_room() {
-        return Err(Trouble::NoCase);
-    }
-    let values = texts_of(alloc, values, "")?;
-    let (name, description, comment) = texts(alloc, told)?;
-    Ok(group.add_enum(name, description, comment, values)?)
-}
-
-/// Adds a preset of these entries, without a comment, to a group.
-fn add_preset(
-    alloc: Global,
-    group: &mut SettingGroupBuilder,
-    [name, description]: [&str; 2],
-    args: Vec<PresetType>,
-) -> Result<PresetIndex, Trouble> {
-    if !group.has_room() {
-        return Err(Trouble::NoCase);
-    }
-    let (name, description, _) = texts(alloc, [name, description, ""])?;
-    Ok(group.add_preset(name, description, args)?)
-}
+use std::hash::Hash;
+use std::mem;
 
 /// Adds a boolean or a preset without a name to a group.
 fn add_nameless(
@@ -72,9 +20,13 @@ fn add_nameless(
     group: &mut SettingGroupBuilder,
     word: &str,
 ) -> Result<PresetType, Trouble> {
+    if !group.has_room() {
+        return Err(Trouble::NoCase);
+    }
+    let (name, description, comment) = texts(alloc, [""; 3])?;
     match word {
-        "boolean" => Ok(add_bool(alloc, group, [""; 3], false)?.into()),
-        "preset" => Ok(add_preset(alloc, group, [""; 2], Vec::new(alloc))?.into()),
+        "boolean" => Ok(group.add_bool(name, description, comment, false)?.into()),
+        "preset" => Ok(group.add_preset(name, description, Vec::new(alloc))?.into()),
         _ => Err(Trouble::NoCase),
     }
 }
@@ -88,7 +40,6 @@ fn of_other_group(alloc: Global, word: &str, count: u16) -> Result<PresetType, T
     add_nameless(alloc, &mut other, word)
 }
 
-/// The same boolean or preset.
 fn same_as(entry: &PresetType) -> PresetType {
     match entry {
         PresetType::BoolSetting(index) => PresetType::from(*index),
@@ -96,33 +47,34 @@ fn same_as(entry: &PresetType) -> PresetType {
     }
 }
 
-/// What `preset!` makes of a boolean, a preset and a boolean.
-fn in_order(alloc: Global, meant: &[PresetType]) -> Result<Vec<PresetType>, Trouble> {
-    let [
-        PresetType::BoolSetting(first),
-        PresetType::OtherPreset(between),
-        PresetType::BoolSetting(last),
-    ] = meant
-    else {
-        return Err(Trouble::NoCase);
-    };
-    Ok(named_in_order(alloc, *first, *between, *last)?)
+/// What the names mean, which are separated by commas: booleans and presets of this group, or of another. An empty list has no names.
+fn meant(
+    alloc: Global,
+    known: &[(&str, PresetType)],
+    names: &str,
+) -> Result<Vec<PresetType>, Trouble> {
+    let mut args = Vec::new(alloc);
+    if !names.is_empty() {
+        for name in names.split(',') {
+            let entry = match name.split_once(':') {
+                Some((word, count)) => of_other_group(alloc, word, number(count)?)?,
+                None => same_as(named(known, name)?),
+            };
+            args.push(entry)?;
+        }
+    }
+    Ok(args)
 }
 
-/// Groups of settings.
 #[derive(Drop)]
 pub(crate) struct Groups<'l> {
     alloc: Global,
-    /// The group that is being declared.
     group: SettingGroupBuilder,
-    /// Its booleans and presets by their names.
     named: Vec<(&'l str, PresetType)>,
-    /// The groups that were built.
     built: Vec<SettingGroup>,
 }
 
 impl<'l> Groups<'l> {
-    /// Groups of which none is declared or built.
     pub(crate) fn new(alloc: Global) -> Result<Groups<'l>, AllocError> {
         let name = Text::new(alloc, "")?;
         Ok(Groups {
@@ -133,50 +85,38 @@ impl<'l> Groups<'l> {
         })
     }
 
-    /// What a name means: a boolean or preset of this group, or of another.
-    fn meaning(&self, name: &str) -> Result<PresetType, Trouble> {
-        match name.split_once(':') {
-            Some((word, count)) => of_other_group(self.alloc, word, number(count)?),
-            None => Ok(same_as(named(&self.named, name)?)),
-        }
-    }
-
-    /// What the names mean, which are separated by commas. An empty list has no names.
-    fn meant(&self, names: &str) -> Result<Vec<PresetType>, Trouble> {
-        let mut args = Vec::new(self.alloc);
-        if !names.is_empty() {
-            for name in names.split(',') {
-                args.push(self.meaning(name)?)?;
-            }
-        }
-        Ok(args)
-    }
-
     /// `bool NAME DEFAULT`, `num NAME DEFAULT`, `enum NAME VALUES` or `preset NAME NAMES`, with commas between values and names, and
     /// ` | DESCRIPTION | COMMENT`: declares an entry, and writes its number or `Ok`.
-    fn declare(&mut self, sort: &str, case: &mut Case<'l>) -> Result<(), Trouble> {
+    fn declare(&mut self, sort: &str, case: &mut Case<'l>) -> Answer {
         let (name, value) = (text_of(case.word()), text_of(case.word()));
         let (description, comment) = case.doc().split_once(" | ").unwrap_or((case.doc(), ""));
-        let (alloc, told) = (self.alloc, [name, description, comment]);
+        if !self.group.has_room() {
+            return Err(Trouble::NoCase);
+        }
+        let alloc = self.alloc;
+        let (title, description, comment) = texts(alloc, [name, description, comment])?;
         let entry = match sort {
             "bool" => {
-                let index = add_bool(alloc, &mut self.group, told, number(value)?)?;
+                let default = number::<bool>(value)?;
+                let index = self.group.add_bool(title, description, comment, default)?;
                 case.field("boolean ", &index.number());
                 PresetType::from(index)
             }
             "preset" => {
-                let args = self.meant(value)?;
-                let index = add_preset(alloc, &mut self.group, [name, description], args)?;
+                let args = meant(alloc, &self.named, value)?;
+                let index = self.group.add_preset(title, description, args)?;
                 case.field("preset ", &index.number());
                 PresetType::from(index)
             }
             "num" => {
                 case.text("Ok");
-                return add_num(alloc, &mut self.group, told, number(value)?);
+                let default = number::<u8>(value)?;
+                return Ok(self.group.add_num(title, description, comment, default)?);
             }
             _ => {
                 case.text("Ok");
-                return add_enum(alloc, &mut self.group, told, value);
+                let values = texts_of(alloc, value, "")?;
+                return Ok(self.group.add_enum(title, description, comment, values)?);
             }
         };
         match self.named.push((name, entry)) {
@@ -186,13 +126,17 @@ impl<'l> Groups<'l> {
     }
 
     /// `many num COUNT`: declares COUNT numbers, `n0`, `n1` and so on.
-    fn declare_numbers(&mut self, case: &mut Case<'l>) -> Result<(), Trouble> {
-        if !case.takes("num") {
+    fn declare_numbers(&mut self, case: &mut Case<'l>) -> Answer {
+        if case.word() != "num" {
             return Err(Trouble::BadLine);
         }
         for number in 0..case.number::<u16>() {
+            if !self.group.has_room() {
+                return Err(Trouble::NoCase);
+            }
             let name = format!(in self.alloc; "n{number}")?;
-            add_num(self.alloc, &mut self.group, [name.as_str(), "", ""], 0)?;
+            let (name, description, comment) = texts(self.alloc, [name.as_str(), "", ""])?;
+            self.group.add_num(name, description, comment, 0)?;
         }
         case.text("Ok");
         Ok(())
@@ -200,18 +144,30 @@ impl<'l> Groups<'l> {
 
     /// `in_order NAME BOOLEAN,PRESET,BOOLEAN`: declares a preset of what `preset!` makes of these, and writes that, and whether it is
     /// what the names mean.
-    fn declare_in_order(&mut self, case: &mut Case<'l>) -> Result<(), Trouble> {
+    fn declare_in_order(&mut self, case: &mut Case<'l>) -> Answer {
         let (name, names) = (case.word(), case.word());
-        let meant = self.meant(names)?;
-        let args = in_order(self.alloc, &meant)?;
+        let meant = meant(self.alloc, &self.named, names)?;
+        let [
+            PresetType::BoolSetting(first),
+            PresetType::OtherPreset(between),
+            PresetType::BoolSetting(last),
+        ] = meant.as_slice()
+        else {
+            return Err(Trouble::NoCase);
+        };
+        let args = named_in_order(self.alloc, *first, *between, *last)?;
         case.debugged(&args);
         case.field(" ", &(args.as_slice() == meant.as_slice()));
-        add_preset(self.alloc, &mut self.group, [name, ""], args)?;
+        if !self.group.has_room() {
+            return Err(Trouble::NoCase);
+        }
+        let (name, description, _) = texts(self.alloc, [name, "", ""])?;
+        self.group.add_preset(name, description, args)?;
         Ok(())
     }
 
     /// `build NUMBER`: builds the group, and writes `Ok`, or the line of its first fault.
-    fn build_group(&mut self, case: &mut Case<'l>) -> Result<(), Trouble> {
+    fn build_group(&mut self, case: &mut Case<'l>) -> Answer {
         match self.group.build(self.alloc, case.number()) {
             Ok(group) => {
                 self.built.push(group)?;
@@ -222,17 +178,9 @@ impl<'l> Groups<'l> {
         Ok(())
     }
 
-    /// The group, built once more.
-    fn built_again(&self) -> Result<SettingGroup, Trouble> {
-        match self.group.build(self.alloc, 1) {
-            Ok(group) => Ok(group),
-            Err(_) => Err(Trouble::NoCase),
-        }
-    }
-
     /// `target NAME`: writes the name of a target with this group, the name of its group, and the group's size.
-    fn write_target(&self, case: &mut Case<'l>) -> Result<(), Trouble> {
-        let group = self.built_again()?;
+    fn write_target(&self, case: &mut Case<'l>) -> Answer {
+        let group = self.group.build(self.alloc, 1)?;
         let isa = TargetIsa::new(Text::new(self.alloc, case.word())?, group);
         case.text(isa.name.as_str());
         case.field(" ", &isa.settings.name().as_str());
@@ -240,7 +188,19 @@ impl<'l> Groups<'l> {
         Ok(())
     }
 
-    /// The last built group with the name that is the next word.
+    /// Takes the group, and declares it alone.
+    pub(crate) fn declared(&mut self) -> Result<Declarations, Trouble> {
+        let alloc = self.alloc;
+        let next = SettingGroupBuilder::new(alloc, Text::new(alloc, "")?);
+        let groups = vec![in alloc; mem::replace(&mut self.group, next)]?;
+        let (vars, formats) = (TypeVars::new(alloc), FormatTable::new(alloc));
+        let all = AllInstructions::new(alloc);
+        if !Declarations::fits(&vars, &formats, &all) {
+            return Err(Trouble::NoCase);
+        }
+        Ok(Declarations::new(vars, formats, all, groups))
+    }
+
     fn next_group(&self, case: &mut Case<'l>) -> Result<&SettingGroup, Trouble> {
         let name = case.word();
         for group in self.built.iter().rev() {
@@ -251,8 +211,7 @@ impl<'l> Groups<'l> {
         Err(Trouble::NoCase)
     }
 
-    /// Writes the answer to a line that declares or builds a group, or asks something of a built group.
-    fn answer(&mut self, word: &'l str, case: &mut Case<'l>) -> Result<(), Trouble> {
+    fn answer(&mut self, word: &'l str, case: &mut Case<'l>) -> Answer {
         match word {
             "group" => {
                 let name = Text::new(self.alloc, text_of(case.word()))?;
@@ -276,7 +235,7 @@ impl<'l> Groups<'l> {
 
     /// Writes the answer to `layout`, `bytes`, `presets`, `names`, `alike`, `which` or `has`. After the word comes the name of a built
     /// group.
-    fn answer_on_built(&self, word: &str, case: &mut Case<'l>) -> Result<(), Trouble> {
+    fn answer_on_built(&self, word: &str, case: &mut Case<'l>) -> Answer {
         let group = self.next_group(case)?;
         match word {
             "layout" => {
@@ -290,7 +249,7 @@ impl<'l> Groups<'l> {
             "presets" => write_presets(self.alloc, group, case),
             "names" => write_names(group, case),
             "alike" => {
-                write_alike(group, &self.built_again()?, case);
+                write_alike(group, &self.group.build(self.alloc, 1)?, case);
                 Ok(())
             }
             "which" => write_which(self.alloc, group, case),
@@ -313,4 +272,129 @@ impl<'l> Answering<'l> for Groups<'l> {
         case.close(answered);
         case.end(answers)
     }
+}
+
+/// Writes a setting: its kind with its default or its values, its byte, its bit and its number if it is a boolean, and what it gives to its
+/// byte; and after ` | ` its description and its comment, if either isn't empty.
+fn write_setting(setting: &Setting, case: &mut Case<'_>) {
+    case.text(setting.name().as_str());
+    match setting.specific() {
+        SpecificSetting::Bool(b) => case.field(" bool ", &b.default),
+        SpecificSetting::Num(default) => case.field(" num ", default),
+        SpecificSetting::Enum(values) => {
+            case.text(" enum ");
+            let start = case.written();
+            for value in values.as_slice() {
+                case.item(start, value.as_str());
+            }
+        }
+    }
+    case.field(" byte ", &setting.byte_offset());
+    if let SpecificSetting::Bool(b) = setting.specific() {
+        case.field(" bit ", &b.bit_offset);
+        case.field(" number ", &b.predicate_number);
+    }
+    case.field(" gives ", &setting.default_byte());
+    let (description, comment) = (setting.description().as_str(), setting.comment().as_str());
+    if !description.is_empty() || !comment.is_empty() {
+        case.field(" | ", &description);
+    }
+    write_prose(case, comment);
+}
+
+/// Writes the group's name, its sizes and its default bytes. Each byte is what the settings of that byte give to it.
+fn write_bytes(alloc: Global, group: &SettingGroup, case: &mut Case<'_>) -> Answer {
+    let mut bytes = vec![in alloc; 0u8; usize::from(group.byte_size())]?;
+    for setting in group.settings() {
+        if let Some(byte) = bytes.get_mut(usize::from(setting.byte_offset())) {
+            *byte |= setting.default_byte();
+        }
+    }
+    case.text(group.name().as_str());
+    case.field(" byte size ", &group.byte_size());
+    case.field(" settings size ", &group.settings_size());
+    case.field(" booleans from ", &group.bool_start_byte_offset());
+    case.text(" defaults ");
+    case.debugged(&bytes);
+    Ok(())
+}
+
+/// Writes the group's presets in order, a line each: the booleans that it turns on, for each byte the mask and the value, and its
+/// description.
+fn write_presets(alloc: Global, group: &SettingGroup, case: &mut Case<'_>) -> Answer {
+    for preset in group.presets() {
+        if !group.has(preset) {
+            return Err(Trouble::NoCase);
+        }
+        case.separate('\n');
+        case.text(preset.name().as_str());
+        case.letter(' ');
+        let start = case.written();
+        for name in preset.setting_names(group) {
+            case.item(start, name);
+        }
+        case.end_list(start);
+        case.letter(' ');
+        case.debugged(&preset.layout(alloc, group)?);
+        write_prose(case, preset.description().as_str());
+    }
+    Ok(())
+}
+
+fn preset_of<'g>(group: &'g SettingGroup, name: &str) -> Result<&'g Preset, Trouble> {
+    for preset in group.presets() {
+        if preset.name().as_str() == name {
+            return Ok(preset);
+        }
+    }
+    Err(Trouble::NoCase)
+}
+
+/// Writes the names that a preset turns on, of which there are at most three, and what comes after them.
+fn write_names(group: &SettingGroup, case: &mut Case<'_>) -> Answer {
+    let preset = preset_of(group, case.word())?;
+    if !group.has(preset) {
+        return Err(Trouble::NoCase);
+    }
+    let mut names = preset.setting_names(group);
+    case.debugged(&[names.next(), names.next(), names.next(), names.next()]);
+    Ok(())
+}
+
+/// Writes the pairs of numbers of elements that are equal and hash alike.
+fn write_pairs<T: PartialEq + Hash>(one: &[T], two: &[T], case: &mut Case<'_>) {
+    for (j, a) in one.iter().enumerate() {
+        for (k, b) in two.iter().enumerate() {
+            if *a == *b && hash_of(a) == hash_of(b) {
+                case.field(" ", &j);
+                case.field("=", &k);
+            }
+        }
+    }
+}
+
+fn write_alike(one: &SettingGroup, two: &SettingGroup, case: &mut Case<'_>) {
+    case.text("settings");
+    write_pairs(one.settings(), two.settings(), case);
+    case.text(" presets");
+    write_pairs(one.presets(), two.presets(), case);
+}
+
+/// Writes the names of the group's settings that are equal to one that the line makes: `num DEFAULT`, or an enum with a copy of its values.
+fn write_which(alloc: Global, group: &SettingGroup, case: &mut Case<'_>) -> Answer {
+    let is_num = case.word() == "num";
+    let made = if is_num {
+        SpecificSetting::Num(number(case.word())?)
+    } else {
+        let values = ValueNames::from(texts_of(alloc, case.word(), "")?);
+        SpecificSetting::Enum(values.copy(alloc)?)
+    };
+    for setting in group.settings() {
+        if *setting.specific() == made {
+            case.text(setting.name().as_str());
+            case.letter(' ');
+        }
+    }
+    case.letter('.');
+    Ok(())
 }

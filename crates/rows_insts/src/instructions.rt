@@ -1,17 +1,18 @@
-use crate::compared::equal_sets;
-use crate::content::write_part;
 use crate::formats::Formats;
 use crate::kinds::{Kinds, find_value, insert_value};
+use crate::sets::equal_sets;
 use crate::variables::Variables;
-use crate::words::text_of;
-use meta_declared::Declarations;
+use crate::words::{text_of, write_prose};
+use meta_build::Declarations;
 use meta_inst::{
     AllInstructions, InstructionBuilder, InstructionContent, InstructionGroupBuilder, Operands,
 };
-use meta_operands::{FormatId, InstructionFormatBuilder, Operand};
+use meta_operands::{FormatTable, InstructionFormatBuilder, Operand};
 use meta_types::Text;
-use rows_words::{Answering, Case, Trouble, number};
+use meta_typevar::TypeVars;
+use rows_base::{Answer, Answering, Case, Trouble, number};
 use std::alloc::{AllocError, Global};
+use std::mem;
 
 /// The names of inputs by their places, and `o` for later places.
 const INPUTS: [&str; 8] = ["x", "y", "z", "u", "v", "w", "s", "t"];
@@ -35,36 +36,12 @@ fn called(builder: InstructionBuilder, call: &str, case: &mut Case<'_>) -> Instr
         "imm_method" => builder.inst_builder_imm_method(true),
         "no_imm_method" => builder.inst_builder_imm_method(false),
         _ => {
-            case.no_case();
+            case.refuse(Trouble::NoCase);
             builder
         }
     }
 }
 
-/// The builder of an instruction of this name, documentation and format, and of these operands, if they are set.
-fn builder_of(
-    alloc: Global,
-    [name, doc]: [&str; 2],
-    format: FormatId,
-    inputs: Option<Vec<Operand>>,
-    outputs: Option<Vec<Operand>>,
-) -> Result<InstructionBuilder, AllocError> {
-    let (name, doc) = (Text::new(alloc, name)?, Text::new(alloc, doc)?);
-    let mut builder = InstructionBuilder::new(alloc, name, doc, format);
-    if let Some(operands) = inputs
-        && !builder.has_operands_in()
-    {
-        builder = builder.operands_in(operands);
-    }
-    if let Some(operands) = outputs
-        && !builder.has_operands_out()
-    {
-        builder = builder.operands_out(operands);
-    }
-    Ok(builder)
-}
-
-/// Writes how many operands were set, or that they weren't.
 fn write_count(case: &mut Case<'_>, is_set: bool, operands: &[Operand]) {
     if is_set {
         case.shown(&operands.len());
@@ -73,7 +50,6 @@ fn write_count(case: &mut Case<'_>, is_set: bool, operands: &[Operand]) {
     }
 }
 
-/// Variables, kinds, formats, and the instructions that are made of them.
 #[derive(Drop)]
 pub(crate) struct Instructions<'l> {
     alloc: Global,
@@ -87,7 +63,6 @@ pub(crate) struct Instructions<'l> {
 }
 
 impl<'l> Instructions<'l> {
-    /// Nothing is declared, and nothing is built.
     pub(crate) fn new(alloc: Global) -> Instructions<'l> {
         Instructions {
             alloc,
@@ -127,16 +102,6 @@ impl<'l> Instructions<'l> {
         }
     }
 
-    /// The format of this name with these parts, one by one.
-    fn format_of(&self, name: &str, parts: &[&str]) -> Result<InstructionFormatBuilder, Trouble> {
-        let name = Text::new(self.alloc, name)?;
-        let mut builder = InstructionFormatBuilder::new(self.alloc, name);
-        for part in parts {
-            builder = self.with_part(builder, part)?;
-        }
-        Ok(builder)
-    }
-
     /// The operands of a list, with commas between them, named by their places. `''` is the empty list, and `-` no list.
     fn operands_of(&self, list: &str, names: &[&str]) -> Result<Option<Vec<Operand>>, Trouble> {
         if list == "-" {
@@ -155,11 +120,25 @@ impl<'l> Instructions<'l> {
     /// The builder of an instruction by the next words: its name, the name of its format, its inputs and outputs, or `-` if they aren't
     /// set, and the calls of its builder, with commas between them, or `-` for no call; and its documentation.
     fn next_builder(&self, case: &mut Case<'l>) -> Result<InstructionBuilder, Trouble> {
-        let told = [text_of(case.word()), case.doc()];
+        let name = text_of(case.word());
         let format = self.formats.next_id(case)?;
         let inputs = self.operands_of(case.word(), INPUTS.as_slice())?;
         let outputs = self.operands_of(case.word(), OUTPUTS.as_slice())?;
-        let mut builder = builder_of(self.alloc, told, format, inputs, outputs)?;
+        let (name, doc) = (
+            Text::new(self.alloc, name)?,
+            Text::new(self.alloc, case.doc())?,
+        );
+        let mut builder = InstructionBuilder::new(self.alloc, name, doc, format);
+        if let Some(operands) = inputs
+            && !builder.has_operands_in()
+        {
+            builder = builder.operands_in(operands);
+        }
+        if let Some(operands) = outputs
+            && !builder.has_operands_out()
+        {
+            builder = builder.operands_out(operands);
+        }
         for call in case.word().split(',') {
             builder = called(builder, call, case);
         }
@@ -170,7 +149,7 @@ impl<'l> Instructions<'l> {
     }
 
     /// `build INSTRUCTION | DOC`: builds an instruction, as the first: its text, or the line of its first fault.
-    fn build(&mut self, case: &mut Case<'l>) -> Result<(), Trouble> {
+    fn build(&mut self, case: &mut Case<'l>) -> Answer {
         let builder = self.next_builder(case)?;
         if !builder.fits(&self.variables.vars, &self.formats.table) {
             return Err(Trouble::NoCase);
@@ -187,7 +166,7 @@ impl<'l> Instructions<'l> {
 
     /// `given INSTRUCTION | DOC`: adds an instruction to a list. Writes how many are in the list, what it keeps of this one, and the value
     /// operands that are found of it.
-    fn give(&mut self, case: &mut Case<'l>) -> Result<(), Trouble> {
+    fn give(&mut self, case: &mut Case<'l>) -> Answer {
         let builder = self.next_builder(case)?;
         let place = self.all.len();
         InstructionGroupBuilder::new(&mut self.all).push(builder)?;
@@ -195,15 +174,7 @@ impl<'l> Instructions<'l> {
             return Err(Trouble::NoCase);
         }
         case.shown(&self.all.len());
-        self.write_given(self.all.get(place), case)
-    }
-
-    /// Writes what is kept of an instruction, and the value operands that are found of it.
-    fn write_given(
-        &self,
-        builder: &InstructionBuilder,
-        case: &mut Case<'_>,
-    ) -> Result<(), Trouble> {
+        let builder = self.all.get(place);
         if !self.formats.table.is_of(builder.format()) {
             return Err(Trouble::NoCase);
         }
@@ -218,8 +189,6 @@ impl<'l> Instructions<'l> {
         Ok(())
     }
 
-    /// Writes how many results there are, the variables of results and then of values, the one that the format designates and that of the
-    /// first result.
     fn write_operands(&self, operands: &Operands, case: &mut Case<'_>) {
         case.field(" results ", &operands.result_count());
         case.text(" variables ");
@@ -232,16 +201,9 @@ impl<'l> Instructions<'l> {
         case.field(" first ", &self.variables.name(operands.first_result()));
     }
 
-    /// `fits INSTRUCTION`: whether the format is of the table, and the variables of the registry.
-    fn write_fits(&self, case: &mut Case<'l>) -> Result<(), Trouble> {
-        let builder = self.next_builder(case)?;
-        case.yes_or_no(builder.fits(&self.variables.vars, &self.formats.table));
-        Ok(())
-    }
-
     /// `second VARIABLE INSTRUCTION`: whether a second control was named, before the variable is and after that; the one that is named; and
     /// whether the instruction then fits.
-    fn write_second(&self, case: &mut Case<'l>) -> Result<(), Trouble> {
+    fn write_second(&self, case: &mut Case<'l>) -> Answer {
         let second = self.variables.next(case)?;
         let builder = self.next_builder(case)?;
         if builder.has_second_control() {
@@ -257,25 +219,38 @@ impl<'l> Instructions<'l> {
         Ok(())
     }
 
-    /// Writes the answer to a line about instructions and kinds, or about variables. `declarations` asks how many instructions were given,
-    /// if they belong together with the registry and the table.
-    fn answer(&mut self, word: &str, case: &mut Case<'l>) -> Result<(), Trouble> {
+    /// Takes what was declared: the instructions that were given, with the table and the registry, if they belong together.
+    pub(crate) fn declared(&mut self) -> Result<Declarations, Trouble> {
+        let alloc = self.alloc;
+        let vars = mem::replace(&mut self.variables.vars, TypeVars::new(alloc));
+        let formats = mem::replace(&mut self.formats.table, FormatTable::new(alloc));
+        let all = mem::replace(&mut self.all, AllInstructions::new(alloc));
+        if !Declarations::fits(&vars, &formats, &all) {
+            return Err(Trouble::NoCase);
+        }
+        Ok(Declarations::new(vars, formats, all, Vec::new(alloc)))
+    }
+
+    /// Writes the answer to a line about instructions, kinds and formats, or about variables and sets. `fits INSTRUCTION` asks whether the
+    /// format is of the table, and the variables of the registry, and `declarations` how many instructions were given, if they belong
+    /// together with the registry and the table.
+    fn answer(&mut self, word: &str, case: &mut Case<'l>) -> Answer {
         match word {
-            "equal_sets" => equal_sets(self.alloc, case),
-            "insert" => insert_value(self.alloc, case),
-            "find" => find_value(self.alloc, case),
-            "kind" => self.kinds.declare(&self.variables, case),
-            "operand" => self.kinds.write_operand(&self.variables, case),
-            "given" => self.give(case),
-            "build" => self.build(case),
-            "fits" => self.write_fits(case),
-            "second" => self.write_second(case),
+            "equal_sets" => return equal_sets(self.alloc, case),
+            "insert" => return insert_value(self.alloc, case),
+            "find" => return find_value(self.alloc, case),
+            "kind" => return self.kinds.declare(&self.variables, case),
+            "operand" => return self.kinds.write_operand(&self.variables, case),
+            "given" => return self.give(case),
+            "build" => return self.build(case),
+            "second" => return self.write_second(case),
+            "fits" => {
+                let builder = self.next_builder(case)?;
+                case.yes_or_no(builder.fits(&self.variables.vars, &self.formats.table));
+            }
             "names" | "places" | "marks" | "control" => match &self.content {
-                Some(content) => {
-                    write_part(content, word, &self.variables, case);
-                    Ok(())
-                }
-                None => Err(Trouble::NoCase),
+                Some(content) => write_part(content, word, &self.variables, case),
+                None => return Err(Trouble::NoCase),
             },
             "declarations" => {
                 let (vars, table) = (&self.variables.vars, &self.formats.table);
@@ -283,29 +258,24 @@ impl<'l> Instructions<'l> {
                     return Err(Trouble::NoCase);
                 }
                 case.shown(&self.all.len());
-                Ok(())
             }
-            "new" | "root" | "one" | "derive" | "equal_variables" | "parent" => {
-                self.variables.answer(word, case)
-            }
-            _ => self.answer_on_formats(word, case),
-        }
-    }
-
-    fn answer_on_formats(&mut self, word: &str, case: &mut Case<'l>) -> Result<(), Trouble> {
-        match word {
-            "formats" => {
-                self.formats.begin(case);
-                Ok(())
-            }
+            "formats" => self.formats.begin(case),
             "format" => {
                 let name = case.word();
-                let builder = self.format_of(name, case.rest())?;
-                self.formats.declare(name, builder, case)
+                let text = Text::new(self.alloc, name)?;
+                let mut builder = InstructionFormatBuilder::new(self.alloc, text);
+                for part in case.rest() {
+                    builder = self.with_part(builder, part)?;
+                }
+                return self.formats.declare(name, builder, case);
             }
-            "insert_structure" => self.formats.insert_structure(case),
-            _ => self.formats.write_asked(word, &self.variables, case),
+            "insert_structure" => return self.formats.insert_structure(case),
+            "fields" | "structure" | "alike" | "order" | "has" => {
+                return self.formats.write_asked(word, &self.variables, case);
+            }
+            _ => return self.variables.answer(word, case),
         }
+        Ok(())
     }
 }
 
@@ -316,5 +286,73 @@ impl<'l> Answering<'l> for Instructions<'l> {
         let answered = self.answer(word, &mut case);
         case.close(answered);
         case.end(answers)
+    }
+}
+
+/// Writes the numbers after a word, with commas between them, or `-` if there are none.
+fn write_numbers(case: &mut Case<'_>, word: &str, numbers: &[usize]) {
+    case.text(word);
+    let start = case.written();
+    for number in numbers {
+        case.item(start, "");
+        case.shown(number);
+    }
+    case.end_list(start);
+}
+
+/// Writes the marks that are set, each by its letter, or `-` if none is set.
+fn write_marks(content: &InstructionContent, case: &mut Case<'_>) {
+    let marks = [
+        ('t', content.is_terminator()),
+        ('b', content.is_branch()),
+        ('c', content.is_call()),
+        ('r', content.is_return()),
+        ('l', content.can_load()),
+        ('s', content.can_store()),
+        ('p', content.can_trap()),
+        ('o', content.other_side_effects()),
+        ('i', content.side_effects_idempotent()),
+        ('m', content.inst_builder_imm_method()),
+    ];
+    for (letter, is_set) in marks {
+        if is_set {
+            case.letter(letter);
+        }
+    }
+    case.end_list(0);
+}
+
+/// Writes a part of what is known of an instruction. `names`: its name as declared, in camel case and in the code that is written, and its
+/// documentation. `places`: its format's number, how many operands it has, and the places of values, immediates and results. `marks`.
+/// `control`: the variable that controls, and whether it is that of the designated operand, or `none`.
+fn write_part(
+    content: &InstructionContent,
+    part: &str,
+    variables: &Variables<'_>,
+    case: &mut Case<'_>,
+) {
+    match part {
+        "names" => {
+            case.text(content.name().as_str());
+            case.field(" ", &content.camel_name().as_str());
+            case.field(" ", &content.snake_name());
+            write_prose(case, content.doc().as_str());
+        }
+        "places" => {
+            case.field("format ", &content.format().number());
+            case.field(" inputs ", &content.operands_in().len());
+            case.field(" outputs ", &content.operands_out().len());
+            write_numbers(case, " values ", content.value_opnums());
+            write_numbers(case, " immediates ", content.imm_opnums());
+            write_numbers(case, " results ", content.value_results());
+        }
+        "marks" => write_marks(content, case),
+        _ => match content.polymorphic_info() {
+            Some(info) => {
+                case.text(variables.name(Some(info.ctrl_typevar)));
+                case.field(" designated ", &info.use_typevar_operand);
+            }
+            None => case.text("none"),
+        },
     }
 }

@@ -2,8 +2,8 @@ use crate::variables::Variables;
 use crate::words::{text_of, texts, write_prose};
 use meta_operands::{EnumValues, Operand, OperandKind, OperandKindFields};
 use meta_types::Text;
-use rows_words::{Case, Trouble, named, pair_of};
-use std::alloc::{AllocError, Global};
+use rows_base::{Answer, Case, Trouble, named, pair_of};
+use std::alloc::Global;
 
 /// Lets a name stand for a variant, written `NAME=VARIANT`, and answers what it stood for before.
 fn add_value(alloc: Global, values: &mut EnumValues, value: &str) -> Result<Option<Text>, Trouble> {
@@ -33,7 +33,6 @@ fn write_values(values: &EnumValues, case: &mut Case<'_>) {
     case.end_list(start);
 }
 
-/// Writes a text that was found, or `-` if none was.
 fn write_found(found: Option<&Text>, case: &mut Case<'_>) {
     match found {
         Some(text) => case.text(text.as_str()),
@@ -42,7 +41,7 @@ fn write_found(found: Option<&Text>, case: &mut Case<'_>) {
 }
 
 /// `insert LIST VALUE`: how many values there are after one is added to a list, the values in order, and what the name stood for before.
-pub(crate) fn insert_value(alloc: Global, case: &mut Case<'_>) -> Result<(), Trouble> {
+pub(crate) fn insert_value(alloc: Global, case: &mut Case<'_>) -> Answer {
     let mut values = values_of(alloc, case.word())?;
     let before = add_value(alloc, &mut values, case.word())?;
     case.shown(&values.len());
@@ -54,14 +53,13 @@ pub(crate) fn insert_value(alloc: Global, case: &mut Case<'_>) -> Result<(), Tro
 }
 
 /// `find LIST NAME`: what the name stands for among the values, or `-`.
-pub(crate) fn find_value(alloc: Global, case: &mut Case<'_>) -> Result<(), Trouble> {
+pub(crate) fn find_value(alloc: Global, case: &mut Case<'_>) -> Answer {
     let values = values_of(alloc, case.word())?;
     let name = Text::new(alloc, case.word())?;
     write_found(values.get(&name), case);
     Ok(())
 }
 
-/// Writes what a kind shows: its field name and Rust type, and what it is, with an enum's values or the variable of a value.
 pub(crate) fn write_kind(kind: &OperandKind, variables: &Variables<'_>, case: &mut Case<'_>) {
     case.text(kind.rust_field_name.as_str());
     case.field(": ", &kind.rust_type.as_str());
@@ -109,7 +107,6 @@ fn write_operand(operand: &Operand, variables: &Variables<'_>, case: &mut Case<'
     }
 }
 
-/// Kinds by their words.
 #[derive(Drop)]
 pub(crate) struct Kinds<'l> {
     alloc: Global,
@@ -117,7 +114,6 @@ pub(crate) struct Kinds<'l> {
 }
 
 impl<'l> Kinds<'l> {
-    /// An empty list of kinds.
     pub(crate) fn new(alloc: Global) -> Kinds<'l> {
         Kinds {
             alloc,
@@ -142,20 +138,16 @@ impl<'l> Kinds<'l> {
     }
 
     /// `kind WORD FIELD_NAME RUST_TYPE FIELDS | DOC`: a kind, and what it shows. The fields are what operands are.
-    pub(crate) fn declare(
-        &mut self,
-        variables: &Variables<'_>,
-        case: &mut Case<'l>,
-    ) -> Result<(), Trouble> {
+    pub(crate) fn declare(&mut self, variables: &Variables<'_>, case: &mut Case<'l>) -> Answer {
         let word = case.word();
         let told = [text_of(case.word()), case.word(), case.doc()];
         let fields = self.next_fields(variables, case)?;
-        let kind = made(self.alloc, told, fields)?;
+        let (field_name, rust_type, doc) = texts(self.alloc, told)?;
+        let kind = OperandKind::new(field_name, rust_type, fields, doc);
         write_kind(&kind, variables, case);
         Ok(self.named.push((word, kind))?)
     }
 
-    /// The kind for which the word stands: that of the values of a variable, or one that is declared.
     pub(crate) fn kind(
         &self,
         variables: &Variables<'_>,
@@ -177,38 +169,14 @@ impl<'l> Kinds<'l> {
         Ok(Operand::new(name, self.kind(variables, kind)?))
     }
 
-    /// The operand of this name and kind, with its own documentation if one is given.
-    fn told_operand(
-        &self,
-        variables: &Variables<'_>,
-        case: &mut Case<'_>,
-    ) -> Result<Operand, Trouble> {
-        let (name, kind) = (case.word(), case.word());
-        let operand = self.operand(variables, name, kind)?;
-        if case.doc().is_empty() {
-            return Ok(operand);
-        }
-        Ok(operand.with_doc(Text::new(self.alloc, case.doc())?))
-    }
-
     /// `operand NAME KIND | DOC`: what the copy of an operand shows.
-    pub(crate) fn write_operand(
-        &self,
-        variables: &Variables<'_>,
-        case: &mut Case<'_>,
-    ) -> Result<(), Trouble> {
-        let operand = self.told_operand(variables, case)?;
+    pub(crate) fn write_operand(&self, variables: &Variables<'_>, case: &mut Case<'_>) -> Answer {
+        let (name, kind) = (case.word(), case.word());
+        let mut operand = self.operand(variables, name, kind)?;
+        if !case.doc().is_empty() {
+            operand = operand.with_doc(Text::new(self.alloc, case.doc())?);
+        }
         write_operand(&operand.copy(self.alloc)?, variables, case);
         Ok(())
     }
-}
-
-/// The kind of this field name, Rust type and documentation.
-fn made(
-    alloc: Global,
-    told: [&str; 3],
-    fields: OperandKindFields,
-) -> Result<OperandKind, AllocError> {
-    let (field_name, rust_type, doc) = texts(alloc, told)?;
-    Ok(OperandKind::new(field_name, rust_type, fields, doc))
 }

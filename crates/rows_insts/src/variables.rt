@@ -2,18 +2,13 @@ ghost use Rattle.std.specs.Prelude.{◌<◌, length};
 
 use crate::sets::{answer_on_set, set_of, write_masks};
 use meta_types::{DerivedFunc, Text};
-use meta_typevar::{TypeSet, TypeVar, TypeVarParent, TypeVars};
-use rows_words::{Answering, Case, Trouble, found, function_named, hash_of, type_of};
-use std::alloc::{AllocError, Global};
+use meta_typevar::{TypeVar, TypeVarParent, TypeVars};
+use rows_base::{Answer, Case, Trouble, found, function_named, hash_of, type_of};
+use std::alloc::Global;
 
 /// Writes the masks of a variable's coded image, and those of its stored set, if that is the coded image; the only member of its coded
 /// image, and the only type that it can have.
-fn write_sets(
-    case: &mut Case<'_>,
-    alloc: Global,
-    vars: &TypeVars,
-    tv: TypeVar,
-) -> Result<(), Trouble>
+fn write_sets(case: &mut Case<'_>, alloc: Global, vars: &TypeVars, tv: TypeVar) -> Answer
     requires { tv < length vars.now }
 {
     let coded = tv.get_typeset(alloc, vars)?.masks();
@@ -38,20 +33,16 @@ fn write_sets(
     Ok(())
 }
 
-/// A registry of variables, and the words for its variables.
 #[derive(Drop)]
 pub(crate) struct Variables<'l> {
     alloc: Global,
-    /// The registry.
     pub(crate) vars: TypeVars,
-    /// Each variable of the registry, by its number.
     numbered: Vec<TypeVar>,
     /// Variables by their words. A word outlives its registry.
     named: Vec<(&'l str, TypeVar)>,
 }
 
 impl<'l> Variables<'l> {
-    /// An empty registry.
     pub(crate) fn new(alloc: Global) -> Variables<'l> {
         Variables {
             alloc,
@@ -61,25 +52,15 @@ impl<'l> Variables<'l> {
         }
     }
 
-    /// `new`: begins another, empty registry.
-    fn begin(&mut self, case: &mut Case<'_>) {
-        self.vars = TypeVars::new(self.alloc);
-        self.numbered.clear();
-        self.write_count(case);
-    }
-
-    /// Writes how many variables and roots there are.
     fn write_count(&self, case: &mut Case<'_>) {
         case.field("variables ", &self.vars.len());
         case.field(" roots ", &self.vars.root_count());
     }
 
-    /// The variable for which a word stands.
     pub(crate) fn named(&self, word: &str) -> Result<TypeVar, Trouble> {
         found(&self.named, word)
     }
 
-    /// Takes the next word, and answers the variable for which it stands.
     pub(crate) fn next(&self, case: &mut Case<'_>) -> Result<TypeVar, Trouble> {
         self.named(case.word())
     }
@@ -103,33 +84,6 @@ impl<'l> Variables<'l> {
             return Err(Trouble::OutOfMemory);
         }
         Ok(is_added)
-    }
-
-    /// A fresh root with this name, documentation and set.
-    fn fresh_root(&mut self, name: &str, doc: &str, set: TypeSet) -> Result<TypeVar, Trouble> {
-        let (name, doc) = (Text::new(self.alloc, name)?, Text::new(self.alloc, doc)?);
-        if !self.vars.has_room() {
-            return Err(Trouble::NoCase);
-        }
-        Ok(TypeVar::new(&mut self.vars, name, doc, set)?)
-    }
-
-    /// A fresh root that stands for the type of this name.
-    fn singleton(&mut self, name: &str) -> Result<TypeVar, Trouble> {
-        let value_type = type_of(name)?;
-        if !self.vars.has_room() {
-            return Err(Trouble::NoCase);
-        }
-        Ok(TypeVar::new_singleton(&mut self.vars, value_type)?)
-    }
-
-    /// A fresh root with this name and the set of another.
-    fn copied(&mut self, name: &str, other: TypeVar) -> Result<TypeVar, Trouble> {
-        if !self.vars.has_room() || !self.vars.is_of(other) || other.root(&self.vars) != other {
-            return Err(Trouble::NoCase);
-        }
-        let name = Text::new(self.alloc, name)?;
-        Ok(TypeVar::copy_from(&mut self.vars, other, name)?)
     }
 
     /// The variable that is derived from one by a function: what `derived` answers, or the call that has the function's name.
@@ -174,7 +128,7 @@ impl<'l> Variables<'l> {
 
     /// Writes what the registry has of a variable, if it is its own: its number, whether it was added, its name, its documentation and its
     /// parent; its sets; and its free variable, its root and its chain.
-    fn describe(&self, tv: TypeVar, change: &str, case: &mut Case<'_>) -> Result<(), Trouble> {
+    fn describe(&self, tv: TypeVar, change: &str, case: &mut Case<'_>) -> Answer {
         if !self.vars.is_of(tv) {
             return Err(Trouble::NoCase);
         }
@@ -207,18 +161,32 @@ impl<'l> Variables<'l> {
     /// Lets a word stand for a variable, and writes what the registry has of it. `root X = SET | DOC` and `one X = TYPE` are a fresh root
     /// of a set and one that stands for a type; `copy X of Y` is a fresh root with the set of another; `derive X = FUNCTION Y` is what
     /// `derived` answers; `call X = FUNCTION Y` is what the call of this name answers.
-    fn make(&mut self, how: &str, case: &mut Case<'l>) -> Result<(), Trouble> {
+    fn make(&mut self, how: &str, case: &mut Case<'l>) -> Answer {
         let word = case.word();
         case.expect(if how == "copy" { "of" } else { "=" });
+        if !self.vars.has_room() {
+            return Err(Trouble::NoCase);
+        }
         let tv = match how {
             "root" => {
                 let set = set_of(self.alloc, case.rest())?;
-                self.fresh_root(word, case.doc(), set)?
+                let (name, doc) = (
+                    Text::new(self.alloc, word)?,
+                    Text::new(self.alloc, case.doc())?,
+                );
+                TypeVar::new(&mut self.vars, name, doc, set)?
             }
-            "one" => self.singleton(case.word())?,
+            "one" => {
+                let value_type = type_of(case.word())?;
+                TypeVar::new_singleton(&mut self.vars, value_type)?
+            }
             "copy" => {
                 let other = self.next(case)?;
-                self.copied(word, other)?
+                if !self.vars.is_of(other) || other.root(&self.vars) != other {
+                    return Err(Trouble::NoCase);
+                }
+                let name = Text::new(self.alloc, word)?;
+                TypeVar::copy_from(&mut self.vars, other, name)?
             }
             _ => {
                 let function = function_named(case.word())?;
@@ -232,7 +200,7 @@ impl<'l> Variables<'l> {
 
     /// `equal_variables X Y`: whether two variables are equal; if they are, also whether the first is equal to a reference to the other,
     /// and whether they hash equally; if not, whether the first comes before the other.
-    fn write_equal(&self, case: &mut Case<'_>) -> Result<(), Trouble> {
+    fn write_equal(&self, case: &mut Case<'_>) -> Answer {
         let (one, other) = (self.next(case)?, self.next(case)?);
         let referred = TypeVar::from(&other);
         case.field("equal ", &(one == other));
@@ -248,7 +216,7 @@ impl<'l> Variables<'l> {
     }
 
     /// `parent X FUNCTION Y`: whether the parent of a variable is Y by the function, and whether both hash alike.
-    fn write_parent(&self, case: &mut Case<'_>) -> Result<(), Trouble> {
+    fn write_parent(&self, case: &mut Case<'_>) -> Answer {
         let derived = self.next(case)?;
         let derived_func = function_named(case.word())?;
         let type_var = self.next(case)?;
@@ -269,10 +237,14 @@ impl<'l> Variables<'l> {
     /// make a variable. `count` writes how many there are, and `show X` what the registry has of a variable. `is_of X` writes whether it is
     /// of the registry, and `can_derive FUNCTION X` whether the function may be used on it. `equal_variables` and `parent` compare
     /// variables. Any other line is about a set.
-    pub(crate) fn answer(&mut self, word: &str, case: &mut Case<'l>) -> Result<(), Trouble> {
+    pub(crate) fn answer(&mut self, word: &str, case: &mut Case<'l>) -> Answer {
         match word {
             "root" | "one" | "copy" | "derive" | "call" => return self.make(word, case),
-            "new" => self.begin(case),
+            "new" => {
+                self.vars = TypeVars::new(self.alloc);
+                self.numbered.clear();
+                self.write_count(case);
+            }
             "count" => self.write_count(case),
             "show" => {
                 let tv = self.next(case)?;
@@ -295,19 +267,5 @@ impl<'l> Variables<'l> {
             _ => return answer_on_set(self.alloc, word, case),
         }
         Ok(())
-    }
-}
-
-impl<'l> Answering<'l> for Variables<'l> {
-    /// Adds the answer to a line. A line that asks nothing has another answer than one that asks what can't be asked.
-    fn answer_line(&mut self, line: &'l str, answers: &mut String) -> Result<(), AllocError> {
-        let mut case = Case::of(self.alloc, line)?;
-        let word = case.word();
-        let answered = self.answer(word, &mut case);
-        case.close(answered);
-        match case.trouble() {
-            Some(Trouble::BadLine) => answers.push_str("bad line\n"),
-            _ => case.end(answers),
-        }
     }
 }

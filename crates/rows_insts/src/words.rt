@@ -1,5 +1,5 @@
 use meta_types::Text;
-use rows_words::Case;
+use rows_base::Case;
 use std::alloc::{AllocError, Global};
 
 /// The text that a word stands for: itself, and the empty text for `''`.
@@ -7,7 +7,6 @@ pub(crate) fn text_of(word: &str) -> &str {
     if word == "''" { "" } else { word }
 }
 
-/// Three texts that belong together.
 pub(crate) fn texts(
     alloc: Global,
     [first, second, third]: [&str; 3],
@@ -16,7 +15,6 @@ pub(crate) fn texts(
     Ok((first, second, Text::new(alloc, third)?))
 }
 
-/// Writes the text after ` | `, and nothing if it is empty.
 pub(crate) fn write_prose(case: &mut Case<'_>, text: &str) {
     if !text.is_empty() {
         case.field(" | ", &text);

@@ -1,12 +1,7 @@
-ghost use Rattle.std.specs.Prelude.{◌≡◌};
-
-use super::opcodes::{write_found, write_slots};
+use super::opcodes::{counted, write_found, write_slots};
 use meta_gen::{Detail, Tables};
-use meta_unique::Steps;
-use rows_words::{Case, Trouble, numbers_of};
+use rows_base::{Answer, Case, Trouble, numbers_of};
 use std::alloc::Global;
-use std::marker::Brand;
-use std::sync::ledger::{Blank, Ledger};
 
 /// Writes what the tables hold of a group apart from its entries, or `none`.
 fn write_group(tables: &Tables, group: usize, case: &mut Case<'_>) {
@@ -29,7 +24,6 @@ fn write_group(tables: &Tables, group: usize, case: &mut Case<'_>) {
     case.field(", slots ", &slots.len());
 }
 
-/// Writes an entry, its place, what it is, and its default, or `none`.
 fn write_entry(tables: &Tables, group: usize, index: u16, case: &mut Case<'_>) {
     let Some(entry) = tables.descriptor(group, index) else {
         return case.text("none");
@@ -50,22 +44,6 @@ fn write_entry(tables: &Tables, group: usize, index: u16, case: &mut Case<'_>) {
     }
 }
 
-/// What a look-up of the name finds, counted in this ledger.
-fn found_in<L: Ledger>(tables: &Tables, group: usize, name: &[u8], blank: Blank) -> Option<u16>
-    requires name { blank.name ≡ L.name }
-    requires parts { blank.parts ≡ L.parts }
-    requires one { blank.parts ≡ 1 }
-{
-    let mut steps = Steps::<L>::new(blank);
-    tables.find_setting_counted(group, name, &mut steps)
-}
-
-/// What a look-up of the name finds, counted in a new ledger.
-fn counted(tables: &Tables, group: usize, name: &[u8]) -> Option<u16> {
-    found_in::<Brand>(tables, group, name, Blank::new(1))
-}
-
-/// How many entries of a group are found by their own names, by both look-ups.
 fn found_count(tables: &Tables, group: usize) -> u32 {
     let mut count: u32 = 0;
     for index in 0..=u16::MAX {
@@ -75,7 +53,7 @@ fn found_count(tables: &Tables, group: usize) -> u32 {
         let name = entry.name.as_bytes();
         let both = (
             tables.find_setting(group, name),
-            counted(tables, group, name),
+            counted(tables, Some(group), name),
         );
         if both == (Some(index), Some(index)) {
             count = count.saturating_add(1);
@@ -84,7 +62,6 @@ fn found_count(tables: &Tables, group: usize) -> u32 {
     count
 }
 
-/// Writes all entries of a group, a line each.
 fn write_entries(tables: &Tables, group: usize, case: &mut Case<'_>) {
     case.text("entries:");
     for index in 0..=u16::MAX {
@@ -104,7 +81,7 @@ pub(crate) fn ask_groups(
     tables: &Tables,
     word: &str,
     case: &mut Case<'_>,
-) -> Result<(), Trouble> {
+) -> Answer {
     if word == "groups" {
         case.shown(&tables.group_count());
         case.text(" groups");
@@ -118,7 +95,7 @@ pub(crate) fn ask_groups(
         "setting" => {
             let name = case.word().as_bytes();
             let found = tables.find_setting(group, name);
-            write_found(found, counted(tables, group, name), case);
+            write_found(found, counted(tables, Some(group), name), case);
         }
         "setting_slots" => match tables.setting_slots(group) {
             Some(all) => write_slots(all, case),

@@ -1,28 +1,25 @@
-use meta_query::{Lines, Question, Reply, Status};
-use rows_words::{Case, Trouble, write_bytes};
+use meta_query::{Inference, Lines, Query, Question, Reply, Status};
+use rows_base::{Answer, Case, Trouble, write_bytes};
 use std::alloc::Global;
 
-/// Writes the lines of an input, each with an LF after it.
-pub(crate) fn write_lines(input: &[u8], case: &mut Case<'_>) {
-    for line in Lines::new(input) {
-        write_bytes(case, line);
-        case.text("\\n");
-    }
-}
-
-/// Writes how many lines the input has.
-pub(crate) fn write_count(input: &[u8], case: &mut Case<'_>) {
+fn write_lines(input: &[u8], is_counted: bool, case: &mut Case<'_>) {
     let mut count: u32 = 0;
-    for _ in Lines::new(input) {
+    for line in Lines::new(input) {
         count = count.saturating_add(1);
+        if !is_counted {
+            write_bytes(case, line);
+            case.text("\\n");
+        }
     }
-    case.shown(&count);
-    case.text(" lines");
+    if is_counted {
+        case.shown(&count);
+        case.text(" lines");
+    }
 }
 
 /// Writes what a question asks: the name of the instruction, or the length of a long one, the controlling number, that of the second
 /// control after `/` if there is one, and the numbers of the results and of the values.
-fn write_asked(alloc: Global, question: &Question, case: &mut Case<'_>) -> Result<(), Trouble> {
+fn write_asked(alloc: Global, question: &Question, case: &mut Case<'_>) -> Answer {
     let name = question.name();
     if name.len() > 100 {
         case.shown(&name.len());
@@ -42,21 +39,7 @@ fn write_asked(alloc: Global, question: &Question, case: &mut Case<'_>) -> Resul
     Ok(())
 }
 
-/// Writes what a line asks of an instruction, or `none`.
-pub(crate) fn write_question(
-    alloc: Global,
-    line: &[u8],
-    case: &mut Case<'_>,
-) -> Result<(), Trouble> {
-    match Question::parse(alloc, line)? {
-        Some(question) => write_asked(alloc, &question, case)?,
-        None => case.text("none"),
-    }
-    Ok(())
-}
-
-/// Writes the texts of the replies, and the codes of all statuses.
-pub(crate) fn write_codes(case: &mut Case<'_>) {
+fn write_codes(case: &mut Case<'_>) {
     for reply in [Reply::Accept, Reply::Refuse, Reply::Unknown, Reply::Bad] {
         case.text(reply.text());
         case.letter(' ');
@@ -72,4 +55,52 @@ pub(crate) fn write_codes(case: &mut Case<'_>) {
     ] {
         case.shown(&status.code());
     }
+}
+
+fn write_named(name: &[u8], [control, second]: [Option<u16>; 2], case: &mut Case<'_>) {
+    write_bytes(case, name);
+    case.letter(' ');
+    case.number_or_dash(control);
+    if let Some(second) = second {
+        case.field("/", &second);
+    }
+}
+
+/// Writes what a line asks, or `none`: `accept` or `infer` with a name and controlling numbers, or `setting` with a name.
+fn write_query(alloc: Global, line: &[u8], case: &mut Case<'_>) -> Answer {
+    let is_inference = Inference::parse(line).is_some();
+    match Query::parse(alloc, line)? {
+        Some(Query::Accept(question)) if !is_inference => {
+            case.text("accept ");
+            let controls = [question.control_number(), question.second_number()];
+            write_named(question.name(), controls, case);
+        }
+        Some(Query::Infer(inference)) if is_inference => {
+            case.text("infer ");
+            let controls = [inference.control_number(), inference.second_number()];
+            write_named(inference.name(), controls, case);
+        }
+        Some(Query::Setting(name)) if !is_inference => {
+            case.text("setting ");
+            write_bytes(case, name);
+        }
+        None if !is_inference => case.text("none"),
+        _ => return Err(Trouble::Differ),
+    }
+    Ok(())
+}
+
+/// Writes what a word asks of an input: `lines` its lines, and `count` how many there are; `question` what `Question` finds in a line, and
+/// `meant` what `Query` does. `codes` writes the texts of replies and the codes of statuses.
+pub fn ask_line(alloc: Global, word: &str, input: &[u8], case: &mut Case<'_>) -> Answer {
+    match word {
+        "codes" => write_codes(case),
+        "lines" | "count" => write_lines(input, word == "count", case),
+        "meant" => return write_query(alloc, input, case),
+        _ => match Question::parse(alloc, input)? {
+            Some(question) => return write_asked(alloc, &question, case),
+            None => case.text("none"),
+        },
+    }
+    Ok(())
 }

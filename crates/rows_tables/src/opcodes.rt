@@ -2,7 +2,7 @@ ghost use Rattle.std.specs.Prelude.{◌≡◌};
 
 use meta_gen::Tables;
 use meta_unique::Steps;
-use rows_words::{Case, Trouble, number, numbers_of};
+use rows_base::{Answer, Case, Trouble, number, numbers_of};
 use std::alloc::Global;
 use std::marker::Brand;
 use std::sync::ledger::{Blank, Ledger};
@@ -30,7 +30,6 @@ fn write_opcode(tables: &Tables, opcode: u16, case: &mut Case<'_>) {
     case.field(" ", &entry.constraint_offset);
 }
 
-/// Writes the masks of the type sets, a line each.
 fn write_sets(tables: &Tables, case: &mut Case<'_>) {
     case.shown(&tables.type_sets().len());
     case.text(" sets");
@@ -42,7 +41,6 @@ fn write_sets(tables: &Tables, case: &mut Case<'_>) {
     }
 }
 
-/// Writes slots, separated by commas, `-` for a vacant one.
 pub(crate) fn write_slots(slots: &[Option<u16>], case: &mut Case<'_>) {
     let start = case.written();
     for slot in slots {
@@ -51,19 +49,26 @@ pub(crate) fn write_slots(slots: &[Option<u16>], case: &mut Case<'_>) {
     }
 }
 
-/// What a look-up of the name finds, counted in this ledger.
-fn found_in<L: Ledger>(tables: &Tables, name: &[u8], blank: Blank) -> Option<u16>
+/// Looks up the name of an opcode, or that of an entry of a group, in a new ledger of steps.
+fn found_in<L: Ledger>(
+    tables: &Tables,
+    group: Option<usize>,
+    name: &[u8],
+    blank: Blank,
+) -> Option<u16>
     requires name { blank.name ≡ L.name }
     requires parts { blank.parts ≡ L.parts }
     requires one { blank.parts ≡ 1 }
 {
     let mut steps = Steps::<L>::new(blank);
-    tables.find_opcode_counted(name, &mut steps)
+    match group {
+        Some(group) => tables.find_setting_counted(group, name, &mut steps),
+        None => tables.find_opcode_counted(name, &mut steps),
+    }
 }
 
-/// What a look-up of the name finds, counted in a new ledger.
-fn counted(tables: &Tables, name: &[u8]) -> Option<u16> {
-    found_in::<Brand>(tables, name, Blank::new(1))
+pub(crate) fn counted(tables: &Tables, group: Option<usize>, name: &[u8]) -> Option<u16> {
+    found_in::<Brand>(tables, group, name, Blank::new(1))
 }
 
 /// Writes the number that was found, `none`, or `differ` where the counted look-up found another.
@@ -75,13 +80,12 @@ pub(crate) fn write_found(plain: Option<u16>, counted: Option<u16>, case: &mut C
     }
 }
 
-/// How many opcodes are found by their own names, by both look-ups.
 fn found_count(tables: &Tables) -> usize {
     let mut count = 0usize;
     for opcode in 1..=tables.opcode_count() {
         if let Some(name) = tables.opcode_name(opcode) {
             let name = name.as_bytes();
-            let both = (tables.find_opcode(name), counted(tables, name));
+            let both = (tables.find_opcode(name), counted(tables, None, name));
             if both == (Some(opcode), Some(opcode)) {
                 count = count.saturating_add(1);
             }
@@ -90,7 +94,6 @@ fn found_count(tables: &Tables) -> usize {
     count
 }
 
-/// The number of a control, where `-` is no control.
 fn control_of(word: &str) -> Result<Option<u16>, Trouble> {
     match word {
         "-" => Ok(None),
@@ -106,7 +109,7 @@ fn next_controls(case: &mut Case<'_>) -> Result<[Option<u16>; 2], Trouble> {
 }
 
 /// Writes whether an opcode accepts numbers, where `-` is no control and an empty list. Without a second control both calls have to agree.
-fn write_accepts(alloc: Global, tables: &Tables, case: &mut Case<'_>) -> Result<(), Trouble> {
+fn write_accepts(alloc: Global, tables: &Tables, case: &mut Case<'_>) -> Answer {
     let opcode = case.number();
     let [ctrl, second] = next_controls(case)?;
     let results = numbers_of(alloc, case.word(), "-")?;
@@ -120,7 +123,7 @@ fn write_accepts(alloc: Global, tables: &Tables, case: &mut Case<'_>) -> Result<
 }
 
 /// Writes how many results an opcode infers, or `none`, and then all seven places. Without a second control both calls have to agree.
-fn write_inferred(tables: &Tables, case: &mut Case<'_>) -> Result<(), Trouble> {
+fn write_inferred(tables: &Tables, case: &mut Case<'_>) -> Answer {
     let opcode = case.number();
     let [ctrl, second] = next_controls(case)?;
     let (mut numbers, mut of_one) = (PLACES, PLACES);
@@ -184,7 +187,7 @@ pub(crate) fn ask_opcodes(
             for name in case.word().split(',') {
                 let name = name.as_bytes();
                 case.separate(',');
-                write_found(tables.find_opcode(name), counted(tables, name), case);
+                write_found(tables.find_opcode(name), counted(tables, None, name), case);
             }
         }
         "accepts" => write_accepts(alloc, tables, case)?,

@@ -1,12 +1,11 @@
 use meta_gen::{
     Constraint, Descriptor, Detail, GroupParts, OpcodeConstraints, TableParts, Tables,
-    tables_from_parts,
+    opcodes_from_parts, tables_from_parts,
 };
-use meta_opcode_tables::opcodes_from_parts;
 use meta_setting_tables::group_from_parts;
 use meta_types::Text;
 use meta_typevar::Masks;
-use rows_words::{Case, Trouble};
+use rows_base::{Answer, Case, Trouble};
 use std::alloc::{AllocError, Global};
 
 /// The most changes of a line.
@@ -14,13 +13,6 @@ const MOST_EDITS: usize = 20;
 
 /// What is written of parts that make no tables.
 const NONE: &str = "not well-formed";
-
-fn push_copies(list: &mut Vec<Text>, alloc: Global, texts: &[Text]) -> Result<(), AllocError> {
-    for text in texts {
-        list.push(text.copy(alloc)?)?;
-    }
-    Ok(())
-}
 
 fn entry_copy(alloc: Global, entry: &Descriptor) -> Result<Descriptor, AllocError> {
     match (entry.name.copy(alloc), entry.description.copy(alloc)) {
@@ -34,42 +26,30 @@ fn entry_copy(alloc: Global, entry: &Descriptor) -> Result<Descriptor, AllocErro
     }
 }
 
-/// Adds copies of entries.
-fn push_entries(
-    list: &mut Vec<Descriptor>,
-    alloc: Global,
-    entries: &[Descriptor],
-) -> Result<(), AllocError> {
-    for entry in entries {
-        list.push(entry_copy(alloc, entry)?)?;
-    }
-    Ok(())
-}
-
-/// Adds what a group of tables holds apart from its name.
 fn fill_group(
     parts: &mut GroupParts,
     alloc: Global,
     tables: &Tables,
     group: usize,
 ) -> Result<(), AllocError> {
-    let entries = tables.descriptors(group).unwrap_or(&[]);
-    push_entries(&mut parts.descriptors, alloc, entries)?;
-    let values = tables.enumerators(group).unwrap_or(&[]);
-    push_copies(&mut parts.enumerators, alloc, values)?;
+    for entry in tables.descriptors(group).unwrap_or(&[]) {
+        parts.descriptors.push(entry_copy(alloc, entry)?)?;
+    }
+    for value in tables.enumerators(group).unwrap_or(&[]) {
+        parts.enumerators.push(value.copy(alloc)?)?;
+    }
     let defaults = tables.defaults(group).unwrap_or(&[]);
     parts.defaults.extend_from_slice(defaults)?;
     let masks = tables.preset_masks(group).unwrap_or(&[]);
     parts.preset_masks.extend_from_slice(masks)
 }
 
-/// Adds the parts of a group of tables.
 fn push_group(
     groups: &mut Vec<GroupParts>,
     alloc: Global,
     tables: &Tables,
     group: usize,
-) -> Result<(), Trouble> {
+) -> Answer {
     let Some(name) = tables.group_name(group) else {
         return Err(Trouble::Differ);
     };
@@ -84,13 +64,7 @@ fn push_group(
     Ok(groups.push(parts)?)
 }
 
-/// Adds the parts of an opcode of tables.
-fn push_opcode(
-    parts: &mut TableParts,
-    alloc: Global,
-    tables: &Tables,
-    opcode: u16,
-) -> Result<(), Trouble> {
+fn push_opcode(parts: &mut TableParts, alloc: Global, tables: &Tables, opcode: u16) -> Answer {
     let found = (
         tables.opcode_name(opcode),
         tables.opcode_format(opcode),
@@ -105,12 +79,7 @@ fn push_opcode(
 }
 
 /// Adds the parts of tables, and changes them by the words that are left.
-fn fill(
-    parts: &mut TableParts,
-    alloc: Global,
-    tables: &Tables,
-    case: &mut Case<'_>,
-) -> Result<(), Trouble> {
+fn fill(parts: &mut TableParts, alloc: Global, tables: &Tables, case: &mut Case<'_>) -> Answer {
     parts.type_sets.extend_from_slice(tables.type_sets())?;
     let constraints = tables.operand_constraints();
     parts.operand_constraints.extend_from_slice(constraints)?;
@@ -128,7 +97,6 @@ fn fill(
     Ok(())
 }
 
-/// The parts of tables, changed by the words that are left.
 fn edited_parts(
     alloc: Global,
     tables: &Tables,
@@ -146,11 +114,10 @@ fn edited_parts(
     Ok(parts)
 }
 
-/// Puts something at the place with the number, if there is such a place.
 fn put<T: Drop>(list: &mut Vec<T>, place: usize, item: T, case: &mut Case<'_>) {
     match list.get_mut(place) {
         Some(old) => *old = item,
-        None => case.no_case(),
+        None => case.refuse(Trouble::NoCase),
     }
 }
 
@@ -165,7 +132,6 @@ fn put_text(
     Ok(())
 }
 
-/// Puts an entry in a place, the place first.
 fn put_entry(
     alloc: Global,
     list: &mut Vec<Descriptor>,
@@ -186,7 +152,6 @@ fn put_entry(
     Ok(())
 }
 
-/// Puts a byte in a place, the place first.
 fn put_byte(list: &mut Vec<u8>, case: &mut Case<'_>) {
     let (place, byte) = (case.number(), case.number());
     put(list, place, byte, case);
@@ -196,11 +161,11 @@ fn put_byte(list: &mut Vec<u8>, case: &mut Case<'_>) {
 fn resize<T: Copy + Drop>(list: &mut Vec<T>, count: usize, case: &mut Case<'_>) {
     match list.last().copied() {
         Some(last) => case.note(list.resize(count, last)),
-        None => case.no_case(),
+        None => case.refuse(Trouble::NoCase),
     }
 }
 
-fn resize_texts(alloc: Global, list: &mut Vec<Text>, count: usize) -> Result<(), Trouble> {
+fn resize_texts(alloc: Global, list: &mut Vec<Text>, count: usize) -> Answer {
     list.truncate(count);
     for _ in list.len()..count {
         let last = match list.last() {
@@ -212,7 +177,6 @@ fn resize_texts(alloc: Global, list: &mut Vec<Text>, count: usize) -> Result<(),
     Ok(())
 }
 
-/// Takes the masks of a type set.
 fn next_masks(case: &mut Case<'_>) -> Masks {
     let (lanes, dynamic_lanes) = (case.number(), case.number());
     let (ints, floats) = (case.number(), case.number());
@@ -224,7 +188,6 @@ fn next_masks(case: &mut Case<'_>) -> Masks {
     }
 }
 
-/// Takes the flags of an opcode, its sets, and the place of its constraints.
 fn next_entry(case: &mut Case<'_>) -> OpcodeConstraints {
     let (flags, typeset_offset) = (case.number(), case.number());
     let (second_offset, constraint_offset) = (case.number(), case.number());
@@ -236,7 +199,6 @@ fn next_entry(case: &mut Case<'_>) -> OpcodeConstraints {
     }
 }
 
-/// Takes the kind of an entry.
 fn next_detail(case: &mut Case<'_>) -> Detail {
     match case.word() {
         "bool" => Detail::Bool { bit: case.number() },
@@ -247,18 +209,13 @@ fn next_detail(case: &mut Case<'_>) -> Detail {
         "num" => Detail::Num,
         "preset" => Detail::Preset,
         _ => {
-            case.no_case();
+            case.refuse(Trouble::NoCase);
             Detail::Num
         }
     }
 }
 
-fn edit_group(
-    alloc: Global,
-    group: &mut GroupParts,
-    word: &str,
-    case: &mut Case<'_>,
-) -> Result<(), Trouble> {
+fn edit_group(alloc: Global, group: &mut GroupParts, word: &str, case: &mut Case<'_>) -> Answer {
     match word {
         "group" => group.name = Text::new(alloc, case.word())?,
         "setting" => put_entry(alloc, &mut group.descriptors, case)?,
@@ -275,7 +232,7 @@ fn edit_group(
 }
 
 /// Changes a part: one of the list that a word names, at a place, or how many the list has, or a part of a group.
-fn edit(alloc: Global, parts: &mut TableParts, case: &mut Case<'_>) -> Result<(), Trouble> {
+fn edit(alloc: Global, parts: &mut TableParts, case: &mut Case<'_>) -> Answer {
     let (word, number) = (case.word(), case.number());
     match word {
         "name" => put_text(alloc, &mut parts.names, number, case)?,
@@ -304,7 +261,6 @@ fn edit(alloc: Global, parts: &mut TableParts, case: &mut Case<'_>) -> Result<()
     Ok(())
 }
 
-/// Whether the tables of each group can be made.
 fn makes_groups(alloc: Global, groups: Vec<GroupParts>) -> Result<bool, AllocError> {
     let mut makes = true;
     for group in groups {
@@ -327,7 +283,6 @@ fn makes_each(alloc: Global, parts: TableParts) -> Result<bool, AllocError> {
     Ok(opcodes.is_some() && makes)
 }
 
-/// What parts make, all together: the same tables as these, others, or no tables.
 fn made_of(alloc: Global, parts: TableParts, tables: &Tables) -> Result<&'static str, AllocError> {
     match tables_from_parts(alloc, parts)? {
         Some(made) if made.same(tables) && tables.same(&made) => Ok("same"),
@@ -338,11 +293,7 @@ fn made_of(alloc: Global, parts: TableParts, tables: &Tables) -> Result<&'static
 
 /// Takes tables apart, changes the parts by the words that are left, and writes what the parts make, all together and each alone: the same
 /// tables, others, or no tables.
-pub(crate) fn write_made(
-    alloc: Global,
-    tables: &Tables,
-    case: &mut Case<'_>,
-) -> Result<(), Trouble> {
+pub(crate) fn write_made(alloc: Global, tables: &Tables, case: &mut Case<'_>) -> Answer {
     let taken = case.taken();
     let made = made_of(alloc, edited_parts(alloc, tables, case)?, tables)?;
     case.go_back(taken);

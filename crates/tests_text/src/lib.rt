@@ -4,16 +4,8 @@
 #[cfg(test)]
 mod adapters;
 #[cfg(test)]
-mod buffers;
-#[cfg(test)]
-mod copies;
-#[cfg(test)]
-mod ends;
-#[cfg(test)]
 mod expect;
 #[cfg(test)]
 mod faults;
-#[cfg(test)]
-mod limits;
 #[cfg(test)]
 mod lines;

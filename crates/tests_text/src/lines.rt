@@ -17,7 +17,6 @@ fn f(self) {
 }
 ";
 
-/// Writes the lines, with these fields in the first arm.
 fn write_lines<K: Sink>(sink: &mut K, fields: &[Text]) -> Result<(), WriteError> {
     let mut writer = LineWriter::new(sink);
     writer.line(b"// Lines.")?;

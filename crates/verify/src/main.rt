@@ -1,7 +1,7 @@
 //! Checks the list of typed lines in standard input over the shared declarations.
 #![tactic(auto)]
 
-use meta_main::{Manual, Program, start};
+use meta_command_line::{Manual, Program, start};
 use meta_run::Ending;
 use meta_shared_ops::define;
 use meta_text::{Sink, Source};

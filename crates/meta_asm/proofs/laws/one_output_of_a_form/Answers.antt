@@ -1,7 +1,7 @@
 use Rattle.std.proofs.Common.{◌≡◌, Bool, List, ℕ}
-use Rattle.meta_declared.specs.AllDeclared.{Declared, AreValid}
+use Rattle.meta_build.specs.AllDeclared.{Declared, AreValid}
 use Rattle.meta_gen.specs.Reply.{AllowedReply, AcceptedReply}
-use Rattle.meta_short.specs.Manners.{IsMannerIn, IsMannerDeclared}
+use Rattle.meta_asm.specs.Manners.{IsMannerIn, IsMannerDeclared}
 use Rattle.meta_asm.specs.Form.{written_in}
 use Rattle.meta_asm.specs.declared.form.Form.{Form}
 use Rattle.meta_asm.specs.declared.form.Form.TheVariants.{Short, Explicit}

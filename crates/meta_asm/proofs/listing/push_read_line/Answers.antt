@@ -1,6 +1,6 @@
 use Rattle.std.proofs.Common.{◌++◌, List, ℕ, inl, refl, ap, ◌∙◌, subst, string_bytes, Option, IfSome}
 use Rattle.meta_verify.specs.Defined.{definitions}
-use Rattle.meta_short.specs.Reading.{ReadsIn}
+use Rattle.meta_asm.specs.Reading.{ReadsIn}
 use Rattle.meta_asm.proofs.ListingLemmas.{line_added, empty_is, filled_is}
 use Rattle.meta_asm.proofs.listing.push_read_line.Goals as goal
 

@@ -1,14 +1,14 @@
 use Rattle.std.proofs.Common.{◌≡◌, Bool, Option, sym, ◌∙◌, subst, string_bytes, arith}
 use Rattle.std.proofs.lemmas.Result.{IfOk-weaker}
-use Rattle.meta_words.specs.Lines.{lines_of}
-use Rattle.meta_words.proofs.LineLemmas.{few_lines}
+use Rattle.meta_lines.specs.Lines.{lines_of}
+use Rattle.meta_lines.proofs.LineLemmas.{few_lines}
 use Rattle.meta_gen.specs.Reply.{AllowedReply}
 use Rattle.meta_verify.specs.Environment.{Environment}
 use Rattle.meta_verify.specs.Defined.{definitions}
 use Rattle.meta_verify.specs.Wrong.{Feeds}
 use Rattle.meta_verify.specs.declared.reason.Reason.{Reason}
 use Rattle.meta_verify.proofs.VerdictLemmas.{at_front, left_next, few_so_far, AreRightSoFar, none_so_far, one_right, first_wrong}
-use Rattle.meta_short.specs.Manners.{IsMannerIn}
+use Rattle.meta_asm.specs.Manners.{IsMannerIn}
 use Rattle.meta_asm.specs.Listing.{IsShortened}
 use Rattle.meta_asm.proofs.ListingLemmas.{none_written, one_written, all_written}
 use Rattle.meta_asm.proofs.listing.shortened.Goals as goal

@@ -1,11 +1,11 @@
 use Rattle.std.proofs.Common.{◌≡◌, Bool, true, false, sym, ◌∙◌, subst, string_bytes, arith, rules}
 use Rattle.std.proofs.lemmas.Result.{IfOk-weaker}
-use Rattle.meta_words.specs.Lines.{lines_of}
-use Rattle.meta_words.proofs.LineLemmas.{few_lines}
+use Rattle.meta_lines.specs.Lines.{lines_of}
+use Rattle.meta_lines.proofs.LineLemmas.{few_lines}
 use Rattle.meta_gen.specs.Reply.{AllowedReply}
 use Rattle.meta_verify.specs.Defined.{definitions}
 use Rattle.meta_verify.proofs.VerdictLemmas.{at_front, left_next, few_so_far}
-use Rattle.meta_short.specs.Manners.{IsMannerIn}
+use Rattle.meta_asm.specs.Manners.{IsMannerIn}
 use Rattle.meta_asm.specs.Listing.{IsSpelled}
 use Rattle.meta_asm.proofs.ListingLemmas.{none_read, one_read, all_read, first_unread}
 use Rattle.meta_asm.proofs.listing.spelled.Goals as goal

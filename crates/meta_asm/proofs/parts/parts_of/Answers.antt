@@ -1,7 +1,7 @@
 use Rattle.std.proofs.Common.{◌≡◌, ◌++◌, List, ℕ, Bor, map, arith, ◌∙◌}
 use Rattle.meta_verify.specs.Statement.{value_text}
-use Rattle.meta_short.specs.Short.{behind, short_results, short_result_text, control_written, values_written}
-use Rattle.meta_short.proofs.ShortLemmas.{equals, short_lacks}
+use Rattle.meta_asm.specs.Short.{behind, short_results, short_result_text, control_written, values_written}
+use Rattle.meta_asm.proofs.ShortLemmas.{equals, short_lacks}
 use Rattle.meta_asm.proofs.PartLemmas.{first_is, rest_is, applied_part, applied_lacks, head_values, head_lacks}
 use Rattle.meta_asm.proofs.parts.parts_of.Goals as goal
 

@@ -2,12 +2,12 @@ use Rattle.std.proofs.Common.{◌≡◌, List, ℕ, length, Some, None, true, fa
 use Rattle.std.specs.List.{position, list_any}
 use Rattle.std.proofs.lemmas.Bool.{false≢true}
 use Rattle.std.proofs.lemmas.Option.{slice_get_read}
-use Rattle.meta_meaning.specs.Tables.{NumberConstraint, SameNumber}
+use Rattle.meta_inst.specs.Tables.{NumberConstraint, SameNumber}
 use Rattle.meta_inst.specs.Which.{First}
-use Rattle.meta_opcode_tables.specs.Constraint.{number_constraint_of, entry_of}
-use Rattle.meta_opcode_tables.specs.declared.constraint.Constraint.{Constraint}
+use Rattle.meta_gen.specs.Constraint.{number_constraint_of, entry_of}
+use Rattle.meta_gen.specs.declared.constraint.Constraint.{Constraint}
 use Rattle.meta_verify.specs.Defined.{definitions}
-use Rattle.meta_short.specs.Manners.{is_control, value_constraints}
+use Rattle.meta_asm.specs.Manners.{is_control, value_constraints}
 use Rattle.meta_asm.proofs.ReaderLemmas.{place_is, no_place, some_control, has_value, value_controls}
 use Rattle.meta_asm.proofs.reader.control_of.Goals as goal
 

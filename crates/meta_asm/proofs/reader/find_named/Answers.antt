@@ -1,9 +1,9 @@
 use Rattle.std.proofs.Common.{◌≡◌, sym, ap, ◌∙◌}
 use Rattle.std.proofs.lemmas.Option.{same_Some}
-use Rattle.meta_opcode_tables.specs.Constraint.{entry_of}
-use Rattle.meta_meaning.specs.Tables.{OpcodeNumbers}
-use Rattle.meta_short.specs.Short.{Manner}
-use Rattle.meta_short.specs.Manners.{manner_of}
+use Rattle.meta_gen.specs.Constraint.{entry_of}
+use Rattle.meta_inst.specs.Tables.{OpcodeNumbers}
+use Rattle.meta_asm.specs.Short.{Manner}
+use Rattle.meta_asm.specs.Manners.{manner_of}
 use Rattle.meta_asm.proofs.reader.find_named.Goals as goal
 
 pub returns-clause-manner : goal.returns-clause-manner

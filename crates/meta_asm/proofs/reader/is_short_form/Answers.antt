@@ -5,8 +5,8 @@ use Rattle.meta_verify.specs.declared.reason.Reason.{Reason}
 use Rattle.std.specs.Cmp.Lexicographic.{bytes_decides}
 use Rattle.std.proofs.lemmas.Bool.{false≢true}
 use Rattle.meta_verify.specs.Defined.{definitions}
-use Rattle.meta_short.specs.Reading.{IsShortIn}
-use Rattle.meta_short.proofs.OneLine.{one_form_in}
+use Rattle.meta_asm.specs.Reading.{IsShortIn}
+use Rattle.meta_asm.proofs.OneLine.{one_form_in}
 use Rattle.meta_asm.proofs.ReaderLemmas.{right_line}
 use Rattle.meta_asm.proofs.reader.is_short_form.Goals as goal
 

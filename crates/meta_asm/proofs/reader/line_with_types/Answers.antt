@@ -1,6 +1,6 @@
 use Rattle.std.proofs.Common.{◌≡◌, List, ℕ, Bor, Vec, Global, map, Option, Some, None, ap, ◌∙◌, subst}
 use Rattle.std.specs.Option.{option_map}
-use Rattle.meta_opcode_tables.specs.Constraint.{entry_of}
+use Rattle.meta_gen.specs.Constraint.{entry_of}
 use Rattle.meta_verify.specs.Statement.{value_text, typed_text, list_text}
 use Rattle.meta_verify.specs.Defined.{definitions}
 use Rattle.meta_asm.specs.Written.{IsWritten}

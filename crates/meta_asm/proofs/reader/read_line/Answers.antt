@@ -2,7 +2,7 @@ use Rattle.std.proofs.Common.{◌≡◌, List, ℕ, Some, None, Vec, Global, tru
 use Rattle.std.specs.Option.{option_map}
 use Rattle.std.proofs.lemmas.Result.{IfOk-weaker}
 use Rattle.meta_verify.specs.Defined.{definitions}
-use Rattle.meta_short.specs.Reading.{IsShortIn, ReadsIn}
+use Rattle.meta_asm.specs.Reading.{IsShortIn, ReadsIn}
 use Rattle.meta_asm.proofs.ReaderLemmas.{read_some, read_none, short_small, as_application}
 use Rattle.meta_asm.proofs.reader.read_line.Goals as goal
 

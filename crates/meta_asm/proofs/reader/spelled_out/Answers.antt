@@ -1,8 +1,8 @@
 use Rattle.std.proofs.Common.{List, ℕ, Some, sym, ap, ◌∙◌}
 use Rattle.std.proofs.lemmas.Result.{IfOk-weaker}
-use Rattle.meta_opcode_tables.specs.Constraint.{entry_of}
+use Rattle.meta_gen.specs.Constraint.{entry_of}
 use Rattle.meta_verify.specs.Defined.{definitions}
-use Rattle.meta_short.specs.Short.{Manner}
+use Rattle.meta_asm.specs.Short.{Manner}
 use Rattle.meta_asm.proofs.ReaderLemmas.{right_plain, is_read, has_entry}
 use Rattle.meta_asm.proofs.reader.spelled_out.Goals as goal
 

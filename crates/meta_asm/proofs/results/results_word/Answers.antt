@@ -1,6 +1,6 @@
 use Rattle.std.proofs.Common.{◌≡◌, List, [], ℕ, Bor, None, Some, true, false, sym, ap, ◌∙◌, subst, rules, codes}
 use Rattle.std.specs.Option.{option_map}
-use Rattle.meta_words.specs.Words.{pieces_of}
+use Rattle.meta_lines.specs.Words.{pieces_of}
 use Rattle.meta_asm.proofs.ResultLemmas.{AreLeft, all_left, one_result_more, none_left, no_results_written}
 use Rattle.meta_asm.proofs.results.results_word.Goals as goal
 

@@ -1,7 +1,7 @@
 use Rattle.std.proofs.Common.{◌≡◌, ℕ, Bool, List, Bor, map, All}
 use Rattle.std.specs.Option.{option_map}
 use Rattle.meta_verify.specs.Statement.{TypedValue, IsTyped}
-use Rattle.meta_short.specs.Short.{short_results, short_result_text, values_written}
+use Rattle.meta_asm.specs.Short.{short_results, short_result_text, values_written}
 use Rattle.meta_asm.specs.Parts.{TellTypes}
 use Rattle.meta_asm.proofs.ResultLemmas.{AreLeft}
 use Rattle.meta_asm.proofs.results.results_word.Given as goal

@@ -4,7 +4,7 @@ use Rattle.meta_verify.specs.Statement as spec
 use Rattle.meta_verify.specs.Numbers.{stated, HasTypeNumbers}
 use Rattle.meta_verify.specs.declared.statement.Statement.{Statement}
 use Rattle.meta_verify.specs.declared.statement.Statement.TheVariants.{Parameter, Applied}
-use Rattle.meta_short.specs.Short.{control_written}
+use Rattle.meta_asm.specs.Short.{control_written}
 use Rattle.meta_asm.proofs.LineLemmas.{shown}
 use Rattle.meta_asm.proofs.WrittenLemmas.{written_word, states_shown, has_written, no_parameter}
 use Rattle.meta_asm.proofs.written.written_of.Goals as goal

@@ -1,5 +1,5 @@
 use Rattle.std.proofs.Common.{below_more, subst₂}
-use Rattle.meta_meaning.specs.Tables.{TableContents}
+use Rattle.meta_inst.specs.Tables.{TableContents}
 use Rattle.meta_audit.specs.Comparison.{SameOpcode}
 use Rattle.meta_audit.proofs.auditing.compared.Goals as goal
 

@@ -1,5 +1,5 @@
 use Rattle.std.proofs.Common.{◌≡◌, ◌↔◌, ℕ, Some, ◌∙◌, arith}
-use Rattle.meta_meaning.specs.Tables.{ControlNumberFits}
+use Rattle.meta_inst.specs.Tables.{ControlNumberFits}
 use Rattle.meta_audit.proofs.Typed.{same_control}
 use Rattle.meta_audit.proofs.OneForm.{same_masks_fit, none_there}
 use Rattle.meta_audit.proofs.Deciding.{granted, both_decide, one_more, compared_equal}

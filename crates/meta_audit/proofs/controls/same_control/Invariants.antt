@@ -1,5 +1,5 @@
 use Rattle.std.proofs.Common.{◌≡◌, ◌↔◌, ◌<◌, ◌≤◌, ℕ, Some}
-use Rattle.meta_meaning.specs.Tables.{ControlNumberFits}
+use Rattle.meta_inst.specs.Tables.{ControlNumberFits}
 use Rattle.meta_audit.proofs.controls.same_control.Given as goal
 
 -- so far the same numbers fit

@@ -1,7 +1,7 @@
 use Rattle.std.proofs.Common.{◌≡◌, ◌≤◌, ◌<◌, ℕ, Option, None, Some, sym, ◌∙◌, arith}
 use Rattle.std.proofs.lemmas.Bool.{false≢true}
 use Rattle.meta_audit.proofs.Typed.{in_range, fitting_typed}
-use Rattle.meta_meaning.specs.Tables.{TableContents, ControlNumberFits}
+use Rattle.meta_inst.specs.Tables.{TableContents, ControlNumberFits}
 use Rattle.meta_audit.proofs.controls.some_control.Goals as goal
 
 -- if neither `None` fits nor a number of a type, nothing does

@@ -2,8 +2,8 @@ use Rattle.std.proofs.Common.{◌≡◌, ℕ, suc, ◌+◌, List, slice_get, Som
 use Rattle.std.specs.Cmp.Lexicographic.{bytes_decides}
 use Rattle.std.proofs.lemmas.Bool.{not-false}
 use Rattle.std.proofs.lemmas.Option.{same_Some}
-use Rattle.meta_meaning.specs.Tables.{OpcodeNumbers, at_opcode}
-use Rattle.meta_opcode_tables.specs.Constraint.{entry_of}
+use Rattle.meta_inst.specs.Tables.{OpcodeNumbers, at_opcode}
+use Rattle.meta_gen.specs.Constraint.{entry_of}
 use Rattle.meta_audit.specs.Comparison.{SameEntry}
 use Rattle.meta_audit.proofs.opcodes.same_opcode.Goals as goal
 

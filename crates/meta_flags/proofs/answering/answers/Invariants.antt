@@ -1,5 +1,5 @@
 use Rattle.std.proofs.Common.{◌≡◌, string_bytes}
-use Rattle.meta_words.specs.Lines.{lines_of}
+use Rattle.meta_lines.specs.Lines.{lines_of}
 use Rattle.meta_flags.specs.Held.{served_by, state_of}
 use Rattle.meta_flags.proofs.AnswerLemmas.{Continues}
 use Rattle.meta_flags.proofs.answering.answers.Given as goal

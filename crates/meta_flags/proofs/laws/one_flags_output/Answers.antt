@@ -1,4 +1,4 @@
-use Rattle.meta_words.specs.Lines.{lines_of}
+use Rattle.meta_lines.specs.Lines.{lines_of}
 use Rattle.meta_flags.specs.FlagAnswers.{initial_of}
 use Rattle.meta_flags.specs.FlagsOutput.{first_served}
 use Rattle.meta_flags.proofs.OneOutput.{one_output}

@@ -1,8 +1,8 @@
 use Rattle.std.proofs.Common.{◌++◌, ap, ◌∙◌, List}
 use Rattle.std.proofs.lemmas.Result.{on_ok_weaker}
 use Rattle.meta_inst.specs.Built.{BuiltInstruction}
-use Rattle.meta_declared.specs.AllDeclared.{Declared}
-use Rattle.meta_rust_words.specs.Known.{known}
+use Rattle.meta_build.specs.AllDeclared.{Declared}
+use Rattle.meta_rust_names.specs.Known.{known}
 use Rattle.meta_rust_names.specs.Methods.{is_among, instruction_methods}
 use Rattle.meta_rust_names.proofs.Lent.{formats_lent}
 use Rattle.meta_rust_names.proofs.all.push_all_formats.Goals as goal

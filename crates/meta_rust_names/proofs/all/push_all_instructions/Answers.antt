@@ -1,8 +1,8 @@
 use Rattle.std.proofs.Common.{◌++◌, ap, ◌∙◌}
 use Rattle.std.proofs.lemmas.Result.{on_ok_weaker}
-use Rattle.meta_declared.specs.AllDeclared.{Declared}
-use Rattle.meta_rust_words.specs.Known.{known}
-use Rattle.meta_rust_names.proofs.BuiltOperands.{each_of_registry}
+use Rattle.meta_build.specs.AllDeclared.{Declared}
+use Rattle.meta_rust_names.specs.Known.{known}
+use Rattle.meta_rust_text.proofs.BuiltOperands.{each_of_registry}
 use Rattle.meta_rust_names.proofs.Lent.{instructions_lent}
 use Rattle.meta_rust_names.proofs.all.push_all_instructions.Goals as goal
 

@@ -1,8 +1,8 @@
 use Rattle.std.proofs.Common.{◌++◌, ◌||◌, ◌∙◌, ap, arith}
 use Rattle.std.proofs.Math.Path.{fun_ext}
 use Rattle.meta_operands.specs.declared.field.FormatField.{FormatField}
-use Rattle.meta_rust_words.specs.Known.{known}
-use Rattle.meta_rust_words.specs.Forms.{has_form}
+use Rattle.meta_rust_names.specs.Known.{known}
+use Rattle.meta_rust_names.specs.Forms.{has_form}
 use Rattle.meta_rust_names.specs.Fields.{field_refused, field_at, fields_refused}
 use Rattle.meta_rust_names.proofs.Placed.{next_placed, no_placed}
 use Rattle.meta_rust_names.proofs.Growing.{known_one_more}

@@ -1,6 +1,6 @@
 use Rattle.std.proofs.Common.{refl}
 use Rattle.meta_types.specs.declared.fault.Place.TheVariants.{Format}
-use Rattle.meta_rust_words.specs.Known.{known}
+use Rattle.meta_rust_names.specs.Known.{known}
 use Rattle.meta_rust_names.specs.Formats.{format_found, format_refused}
 use Rattle.meta_rust_names.proofs.Absent.{absent_adds_nothing}
 use Rattle.meta_rust_names.proofs.formats.push_format_at.Goals as goal

@@ -1,6 +1,6 @@
 use Rattle.std.proofs.Common.{◌≡◌, ◌++◌, drop}
 use Rattle.std.specs.List.{flat_map}
-use Rattle.meta_rust_words.specs.Known.{known}
+use Rattle.meta_rust_names.specs.Known.{known}
 use Rattle.meta_rust_names.specs.Formats.{format_refused}
 use Rattle.meta_rust_names.proofs.formats.push_formats.Given as goal
 

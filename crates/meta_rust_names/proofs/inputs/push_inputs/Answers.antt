@@ -1,7 +1,7 @@
 use Rattle.std.proofs.Common.{◌++◌, ◌∙◌, ap, arith}
 use Rattle.std.proofs.Math.Path.{fun_ext}
-use Rattle.meta_builder_constructors_text.proofs.OperandVariables.{operand_of_registry}
-use Rattle.meta_rust_words.specs.Forms.{has_form}
+use Rattle.meta_rust_text.proofs.OperandVariables.{operand_of_registry}
+use Rattle.meta_rust_names.specs.Forms.{has_form}
 use Rattle.meta_rust_names.specs.Inputs.{names_of_input, input_why, input_refused, input_at, inputs_refused}
 use Rattle.meta_rust_names.proofs.Placed.{next_placed, no_placed}
 use Rattle.meta_rust_names.proofs.Growing.{known_more, known_all}

@@ -1,6 +1,6 @@
 use Rattle.std.proofs.Common.{◌≡◌, ◌++◌, ℕ, List, drop}
 use Rattle.std.specs.List.{flat_map, enumerate_from}
-use Rattle.meta_rust_words.specs.Known.{known}
+use Rattle.meta_rust_names.specs.Known.{known}
 use Rattle.meta_rust_names.specs.Methods.{is_form}
 use Rattle.meta_rust_names.specs.Inputs.{input_at, earlier_inputs}
 use Rattle.meta_rust_names.proofs.inputs.push_inputs.Given as goal

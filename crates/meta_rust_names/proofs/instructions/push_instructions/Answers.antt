@@ -1,6 +1,6 @@
 use Rattle.std.proofs.Common.{length, refl, arith}
 use Rattle.std.proofs.lemmas.Option.{slice_get_read}
-use Rattle.meta_rust_words.specs.Known.{known}
+use Rattle.meta_rust_names.specs.Known.{known}
 use Rattle.meta_rust_names.specs.Instructions.{instruction_refused}
 use Rattle.meta_rust_names.proofs.Placed.{next_placed, no_placed}
 use Rattle.meta_rust_names.proofs.instructions.push_instructions.Goals as goal

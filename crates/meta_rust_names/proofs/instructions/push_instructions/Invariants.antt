@@ -1,6 +1,6 @@
 use Rattle.std.proofs.Common.{◌≡◌, ◌++◌, drop}
 use Rattle.std.specs.List.{flat_map, enumerate_from}
-use Rattle.meta_rust_words.specs.Known.{known}
+use Rattle.meta_rust_names.specs.Known.{known}
 use Rattle.meta_rust_names.specs.Instructions.{instruction_refused}
 use Rattle.meta_rust_names.proofs.instructions.push_instructions.Given as goal
 

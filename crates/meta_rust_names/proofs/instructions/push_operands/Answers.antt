@@ -7,13 +7,13 @@ use Rattle.meta_typevar.specs.declared.content.TypeVarContent.{TypeVarContent}
 use Rattle.meta_operands.specs.declared.operand.Operand.{Operand}
 use Rattle.meta_operands.specs.declared.format.InstructionFormat.{InstructionFormat}
 use Rattle.meta_inst.specs.Built.{BuiltInstruction}
-use Rattle.meta_builder_text.specs.Arguments.{asked_control}
-use Rattle.meta_rust_words.specs.declared.refused.Why.{Why}
-use Rattle.meta_rust_words.specs.declared.refused.Part.TheVariants.{Doc}
-use Rattle.meta_rust_words.specs.declared.refused.RefusedName.{RefusedName}
-use Rattle.meta_rust_words.specs.Refused.{refused}
-use Rattle.meta_rust_words.specs.Comments.{doc_why}
-use Rattle.meta_rust_words.specs.Known.{known}
+use Rattle.meta_rust_text.specs.MethodArguments.{asked_control}
+use Rattle.meta_rust_names.specs.declared.refused.Why.{Why}
+use Rattle.meta_rust_names.specs.declared.refused.Part.TheVariants.{Doc}
+use Rattle.meta_rust_names.specs.declared.refused.RefusedName.{RefusedName}
+use Rattle.meta_rust_names.specs.Refused.{refused}
+use Rattle.meta_rust_names.specs.Comments.{doc_why}
+use Rattle.meta_rust_names.specs.Known.{known}
 use Rattle.meta_rust_names.specs.Methods.{is_form}
 use Rattle.meta_rust_names.specs.Inputs.{inputs_refused, names_of_input}
 use Rattle.meta_rust_names.specs.Instructions.{outputs_refused, control_refused, operands_refused}

@@ -1,6 +1,6 @@
 use Rattle.std.proofs.Common.{arith}
 use Rattle.meta_rust_names.specs.Instructions.{output_refused, outputs_refused}
-use Rattle.meta_builder_constructors_text.proofs.OperandVariables.{operand_of_registry}
+use Rattle.meta_rust_text.proofs.OperandVariables.{operand_of_registry}
 use Rattle.meta_rust_names.proofs.Placed.{next_placed, no_placed}
 use Rattle.meta_rust_names.proofs.instructions.push_outputs.Goals as goal
 

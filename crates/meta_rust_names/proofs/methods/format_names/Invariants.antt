@@ -1,6 +1,6 @@
 use Rattle.std.proofs.Common.{◌≡◌, ℕ, List, take, slice_get}
 use Rattle.std.specs.List.{flat_map}
-use Rattle.meta_rust_words.specs.Known.{known}
+use Rattle.meta_rust_names.specs.Known.{known}
 use Rattle.meta_rust_names.specs.Methods.{is_among, name_of_format}
 use Rattle.meta_rust_names.proofs.methods.format_names.Given as goal
 

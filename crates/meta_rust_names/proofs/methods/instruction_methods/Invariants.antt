@@ -1,6 +1,6 @@
 use Rattle.std.proofs.Common.{◌≡◌, ◌∷◌, [], ℕ, List, take}
 use Rattle.std.specs.List.{flat_map}
-use Rattle.meta_rust_words.specs.Known.{known}
+use Rattle.meta_rust_names.specs.Known.{known}
 use Rattle.meta_rust_names.specs.Methods.{is_among, method_name}
 use Rattle.meta_rust_names.proofs.methods.instruction_methods.Given as goal
 

@@ -1,6 +1,6 @@
 use Rattle.std.proofs.Common.{List, subst, ◌∙◌}
 use Rattle.meta_settings.specs.Layout.{Layout}
-use Rattle.meta_settings_text.specs.SettingsText.{settings_text}
+use Rattle.meta_rust_text.specs.SettingsText.{settings_text}
 use Rattle.meta_rust_text.specs.Written.{WritesMade}
 use Rattle.meta_rust_text.proofs.settings.write_settings.Goals as goal
 

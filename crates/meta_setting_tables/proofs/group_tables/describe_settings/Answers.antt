@@ -1,11 +1,21 @@
-use Rattle.std.proofs.Common.{◌≡◌, length, take, refl, sym, subst, ◌∙◌, arith}
+use Rattle.std.proofs.Common.{◌≡◌, ℕ, List, length, take, refl, sym, subst, ◌∙◌, arith}
 use Rattle.std.proofs.lemmas.Option.{slice_get_read}
 use Rattle.std.proofs.lemmas.Result.{IfOk-from_err}
 use Rattle.meta_settings.specs.declared.setting.SpecificSetting.{SpecificSetting}
-use Rattle.meta_setting_tables.specs.Descriptor.{IsDetailOf}
+use Rattle.meta_settings.specs.Layout.{PlacedSetting}
+use Rattle.meta_setting_tables.specs.Descriptor.{IsDetailOf, setting_descriptor}
+use Rattle.meta_setting_tables.specs.declared.descriptor.Descriptor.{Descriptor}
+use Rattle.meta_setting_tables.specs.declared.descriptor.Detail.{Detail}
 use Rattle.meta_setting_tables.specs.EnumeratorList.{with_values, built_values_of}
 use Rattle.meta_setting_tables.proofs.DescribedSoFar.{settings_next, settings_done}
 use Rattle.meta_setting_tables.proofs.group_tables.describe_settings.Goals as goal
+
+abbrev of_setting : Detail → List ℕ → List ℕ → ℕ → Descriptor
+of_setting detail name description offset = record { name = name; description = description; offset = offset; detail = detail }
+
+described : (s : PlacedSetting) (detail : Detail) (name description : List ℕ) (offset : ℕ) → name ≡ s.name
+    → description ≡ s.description → offset ≡ s.byte_offset → of_setting detail name description offset ≡ setting_descriptor s detail
+described s detail name description offset a b e = λ i. of_setting detail (a i) (b i) (e i)
 
 pub detail_of-requires : goal.detail_of-requires
 detail_of-requires c = λ values is.
@@ -30,9 +40,10 @@ loop-setting-preserved c =
     (c.in_ok-detail.ensures.detail (take k settings) c.loop-setting.invariant.enumerators_are) in
     let made = subst (λ (x : SpecificSetting). after ≡ with_values before (built_values_of x)) c.specific.ensures
     c.in_ok-detail.ensures.added in
-    settings_next settings k s detail c.in_ok-describe_setting.field-0 before after c.loop-setting.descriptors.items
-    c.push.new.self.items at is made c.in_ok-detail.ensures.grown c.in_ok-describe_setting.ensures
-    c.in_ok-push.ensures.items c.loop-setting.invariant
+    let is_own = described s detail _ _ _ (c.in_ok-copy.ensures ∙ c.name.ensures) (c.in_ok-copy-2.ensures ∙ c.description.ensures)
+    (c.from.ensures ∙ c.byte_offset.ensures) in
+    settings_next settings k s detail _ before after c.loop-setting.descriptors.items
+    c.push.new.self.items at is made c.in_ok-detail.ensures.grown is_own c.in_ok-push.ensures.items c.loop-setting.invariant
 
 pub returns-clause-names : goal.returns-clause-names
 returns-clause-names c =

@@ -1,4 +1,4 @@
-use Rattle.std.proofs.Common.{◌↔◌, ℕ, List, All, Bool, Result, Ok, Err, IfOk, IsTrue, sym, ◌∙◌}
+use Rattle.std.proofs.Common.{◌↔◌, ℕ, List, All, Bool, Result, Ok, Err, IfOk, IsTrue, sym, ◌∙◌, rules}
 use Rattle.std.specs.declared.alloc.AllocError.{AllocError}
 use Rattle.std.proofs.lemmas.Bool.{false≢true}
 use Rattle.meta_types.specs.Name.{IsName}
@@ -28,25 +28,26 @@ named_where name entries enumerators (Ok b) group names values plain h = (
 
 pub returns : goal.returns
 returns c =
+    let names : IsTrue c.all.result ↔ All (λ (d : Descriptor). IsName d.name) c.args.entries.now = search rules in
+    let plain : IsTrue c.all-2.result ↔ All (λ (d : Descriptor). All IsPlainByte d.description) c.args.entries.now = search rules in
     named_where c.args.name.now c.args.entries.now c.args.enumerators.now c.have_distinct_names.result
-    (c.is_name.ensures.0 c.if-not-is_name.false) (c.have_names.ensures.0 c.if-not-have_names.false)
-    (c.are_names.ensures.0 c.if-not-are_names.false)
-    (c.have_plain_descriptions.ensures.0 c.if-not-have_plain_descriptions.false) c.have_distinct_names.ensures
+    (c.is_name.ensures.0 c.if-not-is_name.false) (names.0 c.if-not-all.false)
+    (c.are_names.ensures.0 c.if-not-are_names.false) (plain.0 c.if-not-all-2.false) c.have_distinct_names.ensures
 
 pub returns-then-not-is_name : goal.returns-then-not-is_name
 returns-then-not-is_name c =
     (λ t. absurd (false≢true t), λ all. absurd (false≢true (sym c.if-not-is_name.true ∙ c.is_name.ensures.1 all.group_name)))
 
-pub returns-then-not-have_names : goal.returns-then-not-have_names
-returns-then-not-have_names c =
-    (λ t. absurd (false≢true t), λ all. absurd (false≢true (sym c.if-not-have_names.true ∙ c.have_names.ensures.1 all.entry_names)))
+pub returns-then-not-all : goal.returns-then-not-all
+returns-then-not-all c =
+    let names : IsTrue c.all.result ↔ All (λ (d : Descriptor). IsName d.name) c.args.entries.now = search rules in
+    (λ t. absurd (false≢true t), λ all. absurd (false≢true (sym c.if-not-all.true ∙ names.1 all.entry_names)))
 
 pub returns-then-not-are_names : goal.returns-then-not-are_names
 returns-then-not-are_names c =
     (λ t. absurd (false≢true t), λ all. absurd (false≢true (sym c.if-not-are_names.true ∙ c.are_names.ensures.1 all.enumerator_names)))
 
-pub returns-then-not-have_plain_descriptions : goal.returns-then-not-have_plain_descriptions
-returns-then-not-have_plain_descriptions c = (
-  λ t. absurd (false≢true t),
-  λ all. absurd (false≢true (sym c.if-not-have_plain_descriptions.true ∙ c.have_plain_descriptions.ensures.1 all.descriptions)),
-)
+pub returns-then-not-all-2 : goal.returns-then-not-all-2
+returns-then-not-all-2 c =
+    let plain : IsTrue c.all-2.result ↔ All (λ (d : Descriptor). All IsPlainByte d.description) c.args.entries.now = search rules in
+    (λ t. absurd (false≢true t), λ all. absurd (false≢true (sym c.if-not-all-2.true ∙ plain.1 all.descriptions)))

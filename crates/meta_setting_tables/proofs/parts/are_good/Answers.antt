@@ -1,7 +1,9 @@
-use Rattle.std.proofs.Common.{◌≡◌, ◌<◌, List, length, ◌∙◌, sym, ap, subst, arith}
+use Rattle.std.proofs.Common.{◌≡◌, ◌<◌, ◌≤◌, ⊎_elim, ℕ, List, length, ◌∙◌, sym, ap, subst, arith}
 use Rattle.std.proofs.lemmas.Bool.{false≢true}
 use Rattle.meta_setting_tables.specs.declared.descriptor.Descriptor.{Descriptor}
 use Rattle.meta_setting_tables.specs.declared.parts.GroupParts.{GroupParts}
+use Rattle.meta_setting_tables.specs.declared.shape.Shape.{Shape}
+use Rattle.meta_setting_tables.specs.Shape.{IsShapeOf}
 use Rattle.meta_setting_tables.specs.WellFormed.{KeepLimits, AreWellNamed, ArePlaced, AreGoodDefaults, AreGoodMasks}
 use Rattle.meta_setting_tables.proofs.FromParts.{of_both, small_shape, good_where}
 use Rattle.meta_setting_tables.proofs.parts.are_good.Goals as goal
@@ -11,27 +13,55 @@ too_many : (parts : GroupParts) (entries : List Descriptor) → entries ≡ part
     → KeepLimits parts.descriptors.items parts.enumerators.items → ⊥
 too_many parts entries e many limits = let few = limits.few_entries in omega (arith, few, many, ap length e)
 
+-- counts within the limits
+kept : (entries : List Descriptor) (enumerators : List (List ℕ)) (shape : Shape) → length entries ≤ 65535 → IsShapeOf entries shape
+    → shape.booleans ≤ 248 → shape.bytes ≤ 255 → length enumerators ≤ 65535 → KeepLimits entries enumerators
+kept entries enumerators shape few is booleans bytes values =
+    let same_booleans = is.booleans in let same_bytes = is.bytes in
+    record {
+      few_entries = few;
+      few_booleans = omega (arith, booleans, same_booleans);
+      few_bytes = omega (arith, bytes, same_bytes);
+      few_enumerators = values;
+    }
+
 pub are_placed-requires-clause-small : goal.are_placed-requires-clause-small
 are_placed-requires-clause-small c =
+    let limits : KeepLimits c.as_slice-entries.result.now c.as_slice-enumerators.result.now =
+    kept c.as_slice-entries.result.now c.as_slice-enumerators.result.now c.of-shape.result c.if-entries-gt-MAX_ENTRIES.false
+    c.of-shape.ensures
+    c.if-shape-gt-MAX_BOOLEANS.false c.if-shape-gt-MAX_BYTES.false c.if-enumerators-gt-MAX_ENUMERATORS.false in
     small_shape c.as_slice-entries.result.now c.as_slice-enumerators.result.now c.of-shape.result
-    c.if-entries-gt-MAX_ENTRIES.false c.of-shape.ensures (c.keep_limits.ensures.0 c.if-not-keep_limits.false)
+    c.if-entries-gt-MAX_ENTRIES.false c.of-shape.ensures limits
 
 pub are_good_defaults-requires-clause-small : goal.are_good_defaults-requires-clause-small
 are_good_defaults-requires-clause-small c =
+    let limits : KeepLimits c.as_slice-entries.result.now c.as_slice-enumerators.result.now =
+    kept c.as_slice-entries.result.now c.as_slice-enumerators.result.now c.of-shape.result c.if-entries-gt-MAX_ENTRIES.false
+    c.of-shape.ensures
+    c.if-shape-gt-MAX_BOOLEANS.false c.if-shape-gt-MAX_BYTES.false c.if-enumerators-gt-MAX_ENUMERATORS.false in
     small_shape c.as_slice-entries.result.now c.as_slice-enumerators.result.now c.of-shape.result
-    c.if-entries-gt-MAX_ENTRIES.false c.of-shape.ensures (c.keep_limits.ensures.0 c.if-not-keep_limits.false)
+    c.if-entries-gt-MAX_ENTRIES.false c.of-shape.ensures limits
 
 pub are_good_masks-requires-clause-small : goal.are_good_masks-requires-clause-small
 are_good_masks-requires-clause-small c =
+    let limits : KeepLimits c.as_slice-entries.result.now c.as_slice-enumerators.result.now =
+    kept c.as_slice-entries.result.now c.as_slice-enumerators.result.now c.of-shape.result c.if-entries-gt-MAX_ENTRIES.false
+    c.of-shape.ensures
+    c.if-shape-gt-MAX_BOOLEANS.false c.if-shape-gt-MAX_BYTES.false c.if-enumerators-gt-MAX_ENUMERATORS.false in
     small_shape c.as_slice-entries.result.now c.as_slice-enumerators.result.now c.of-shape.result
-    c.if-entries-gt-MAX_ENTRIES.false c.of-shape.ensures (c.keep_limits.ensures.0 c.if-not-keep_limits.false)
+    c.if-entries-gt-MAX_ENTRIES.false c.of-shape.ensures limits
 
 pub returns : goal.returns
 returns c =
+    let limits : KeepLimits c.as_slice-entries.result.now c.as_slice-enumerators.result.now =
+    kept c.as_slice-entries.result.now c.as_slice-enumerators.result.now c.of-shape.result c.if-entries-gt-MAX_ENTRIES.false
+    c.of-shape.ensures
+    c.if-shape-gt-MAX_BOOLEANS.false c.if-shape-gt-MAX_BYTES.false c.if-enumerators-gt-MAX_ENUMERATORS.false in
     good_where c.args.parts.now c.as_slice-entries.result.now c.as_slice-enumerators.result.now c.as_slice.result.now
     c.as_slice-2.result.now c.have_their_values.result c.as_slice-entries.ensures.value
     c.as_slice-enumerators.ensures.value c.as_slice.ensures.value c.as_slice-2.ensures.value
-    (c.keep_limits.ensures.0 c.if-not-keep_limits.false) (c.are_placed.ensures.0 c.if-not-are_placed.false)
+    limits (c.are_placed.ensures.0 c.if-not-are_placed.false)
     (c.are_good_defaults.ensures.0 c.if-not-are_good_defaults.false) (c.are_good_masks.ensures.0 c.if-not-are_good_masks.false)
     (c.in_ok-are_well_named.ensures.0 c.if-not-branch.false) c.have_their_values.ensures
 
@@ -45,11 +75,15 @@ returns-then-entries-gt-MAX_ENTRIES c = (
       good.limits),
 )
 
-pub returns-then-not-keep_limits : goal.returns-then-not-keep_limits
-returns-then-not-keep_limits c = (
+pub returns-then-shape-gt-MAX_BOOLEANS : goal.returns-then-shape-gt-MAX_BOOLEANS
+returns-then-shape-gt-MAX_BOOLEANS c = (
   λ t. absurd (false≢true t),
-  λ good. absurd (false≢true (sym c.if-not-keep_limits.true ∙ c.keep_limits.ensures.1 (of_both KeepLimits
-      (sym c.as_slice-entries.ensures.value) (sym c.as_slice-enumerators.ensures.value) good.limits))),
+  λ good.
+      let limits = of_both KeepLimits (sym c.as_slice-entries.ensures.value) (sym c.as_slice-enumerators.ensures.value) good.limits in
+      let few_booleans = limits.few_booleans in let few_bytes = limits.few_bytes in let few_values = limits.few_enumerators in
+      let booleans = c.of-shape.ensures.booleans in let bytes = c.of-shape.ensures.bytes in
+      ⊎_elim (λ m. absurd (omega (arith, m, few_booleans, booleans))) (⊎_elim (λ m. absurd (omega (arith, m.1, few_bytes, bytes)))
+      (λ m. absurd (omega (arith, m.2, few_values)))) c.then-shape-gt-MAX_BOOLEANS.either,
 )
 
 pub returns-then-not-are_placed : goal.returns-then-not-are_placed

@@ -34,7 +34,8 @@ returns-then-not-is_well_named-clause-fault c = record {
 
 pub returns-in-Some-clause-fault : goal.returns-in-Some-clause-fault
 returns-in-Some-clause-fault c =
-    let shared = duplicate c.args.builder.now c.args.place _ c.entry-entry.ensures _ c.name.ensures _ c.requires.kept
+    let same = ap (λ (e : Entry). e.name) c.entry.view_is in
+    let shared = duplicate c.args.builder.now c.args.place _ c.entry-entry.ensures _ same _ c.requires.kept
     _ (rw c.in-Some.is at c.in_ok-earlier.ensures.shared) in
     record {
       position = OfEntry c.args.place EntryDuplicateRule;
@@ -44,17 +45,25 @@ returns-in-Some-clause-fault c =
     }
 
 pub returns-then-not-branch-clause-fault : goal.returns-then-not-branch-clause-fault
-returns-then-not-branch-clause-fault c = record {
-  position = OfEntry c.args.place EnumRule;
-  shows = (_, c.entry-entry.ensures, (refl, λ good. false≢true (sym c.if-not-branch.true ∙ c.in_ok-has_good_values.ensures.1 good)));
-  first = to_enum c.args.builder.now c.args.place _ c.entry-entry.ensures _ c.name.ensures _ c.requires.kept
-      c.requires.clean (c.is_well_named.ensures.0 c.if-not-is_well_named.false)
-      (rw c.in_default.is at c.in_ok-earlier.ensures.unshared) c.args.group;
-}
+returns-then-not-branch-clause-fault c =
+    let same = ap (λ (e : Entry). e.name) c.entry.view_is in
+    let told = rw (ap (λ (e : Entry). e.values) c.entry.view_is) at c.in_ok-has_good_values.ensures in
+    record {
+      position = OfEntry c.args.place EnumRule;
+      shows = (_, c.entry-entry.ensures, (refl, λ good. false≢true (sym c.if-not-branch.true ∙ told.1 good)));
+      first = to_enum c.args.builder.now c.args.place _ c.entry-entry.ensures _ same _ c.requires.kept
+          c.requires.clean (c.is_well_named.ensures.0 c.if-not-is_well_named.false)
+          (rw c.in_default.is at c.in_ok-earlier.ensures.unshared) c.args.group;
+    }
 
 pub returns-then-not-are_met-clause-fault : goal.returns-then-not-are_met-clause-fault
 returns-then-not-are_met-clause-fault c =
-    let clean = to_enum c.args.builder.now c.args.place _ c.entry-entry.ensures _ c.name.ensures _ c.requires.kept
+    let same = ap (λ (e : Entry). e.name) c.entry.view_is in
+    let told = rw (ap (λ (e : Entry). e.values) c.entry.view_is) at c.in_ok-has_good_values.ensures in
+    let count : c.len.result ≡ length c.args.builder.now.settings = c.len.ensures ∙ c.builder.inside.settings.ok.0
+    ∙ ap (λ (d : GroupDeclaration). length d.settings) c.builder.view_is in
+    let args = ap (λ (e : Entry). e.args) c.entry.view_is in
+    let clean = to_enum c.args.builder.now c.args.place _ c.entry-entry.ensures _ same _ c.requires.kept
     c.requires.clean (c.is_well_named.ensures.0 c.if-not-is_well_named.false) (rw c.in_default.is at c.in_ok-earlier.ensures.unshared) in
     record {
       position = OfEntry c.args.place PresetRule;
@@ -64,28 +73,30 @@ returns-then-not-are_met-clause-fault c =
         (
           refl,
           λ met. false≢true (sym c.if-not-are_met.true
-              ∙ c.are_met.ensures.1 (rw (
-                c.boolean_count.ensures,
-                c.saturating_sub-earlier.ensures,
-                c.settings.ensures,
-                c.args-2.ensures,
-              ) met)),
+              ∙ c.are_met.ensures.1 (rw (c.boolean_count.ensures, c.saturating_sub-earlier.ensures, count, args) met)),
         ),
       );
       first = good_enum c.args.builder.now c.args.place _ c.entry-entry.ensures clean
-          (c.in_ok-has_good_values.ensures.0 c.if-not-branch.false) c.args.group;
+          (told.0 c.if-not-branch.false) c.args.group;
     }
 
 pub returns-clause-kept : goal.returns-clause-kept
-returns-clause-kept c = more_kept c.args.builder.now c.args.place _ c.entry-entry.ensures _ c.name.ensures _
+returns-clause-kept c =
+    let same = ap (λ (e : Entry). e.name) c.entry.view_is in
+    more_kept c.args.builder.now c.args.place _ c.entry-entry.ensures _ same _
     c.requires.kept _ (rw c.in_default.is at c.in_ok-earlier.ensures.added)
 
 pub returns-clause-fault : goal.returns-clause-fault
 returns-clause-fault c =
-    let clean = to_enum c.args.builder.now c.args.place _ c.entry-entry.ensures _ c.name.ensures _ c.requires.kept
+    let same = ap (λ (e : Entry). e.name) c.entry.view_is in
+    let told = rw (ap (λ (e : Entry). e.values) c.entry.view_is) at c.in_ok-has_good_values.ensures in
+    let count : c.len.result ≡ length c.args.builder.now.settings = c.len.ensures ∙ c.builder.inside.settings.ok.0
+    ∙ ap (λ (d : GroupDeclaration). length d.settings) c.builder.view_is in
+    let args = ap (λ (e : Entry). e.args) c.entry.view_is in
+    let clean = to_enum c.args.builder.now c.args.place _ c.entry-entry.ensures _ same _ c.requires.kept
     c.requires.clean (c.is_well_named.ensures.0 c.if-not-is_well_named.false) (rw c.in_default.is at c.in_ok-earlier.ensures.unshared) in
     let checked = good_enum c.args.builder.now c.args.place _ c.entry-entry.ensures clean
-    (c.in_ok-has_good_values.ensures.0 c.if-not-branch.false) in
+    (told.0 c.if-not-branch.false) in
     good_preset c.args.builder.now c.args.place _ c.entry-entry.ensures checked
-    (rw (c.boolean_count.ensures, c.saturating_sub-earlier.ensures, c.settings.ensures, c.args-2.ensures) at
+    (rw (c.boolean_count.ensures, c.saturating_sub-earlier.ensures, count, args) at
     (c.are_met.ensures.0 c.if-not-are_met.false))

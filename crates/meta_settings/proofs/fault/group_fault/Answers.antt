@@ -1,20 +1,24 @@
-use Rattle.std.proofs.Common.{◌≡◌, ◌∙◌, inl, inr, ⊎_elim, subst, arith, refl, sym}
+use Rattle.std.proofs.Common.{ap, ◌≡◌, ◌∙◌, inl, inr, ⊎_elim, subst, arith, refl, sym}
 use Rattle.std.proofs.lemmas.Bool.{false≢true}
 use Rattle.meta_types.specs.Name.{IsName}
-use Rattle.meta_settings.specs.GroupDeclaration.{boolean_count}
+use Rattle.meta_settings.specs.GroupDeclaration.{GroupDeclaration, boolean_count}
 use Rattle.meta_settings.specs.GroupFaults.{HasTooMany, OfGroupName, OfCounts}
 use Rattle.meta_settings.proofs.Rules.{before_all, passed_name, passed_counts}
 use Rattle.meta_settings.proofs.fault.group_fault.Goals as goal
 
 pub returns-then-not-is_name : goal.returns-then-not-is_name
-returns-then-not-is_name c = record {
-  position = OfGroupName;
-  shows = (refl, λ named. false≢true (sym c.if-not-is_name.true ∙ c.is_name.ensures.1 (subst IsName (sym c.name.ensures) named)));
-  first = before_all c.args.builder.now c.args.group;
-}
+returns-then-not-is_name c =
+    let name = ap (λ (d : GroupDeclaration). d.name) c.builder.view_is in
+    record {
+      position = OfGroupName;
+      shows = (refl, λ named. false≢true (sym c.if-not-is_name.true ∙ c.is_name.ensures.1 (subst IsName (sym name) named)));
+      first = before_all c.args.builder.now c.args.group;
+    }
 
 pub entries_fault-requires : goal.entries_fault-requires
-entries_fault-requires c = passed_name c.args.builder.now (subst IsName c.name.ensures (c.is_name.ensures.0 c.if-not-is_name.false))
+entries_fault-requires c =
+    let name = ap (λ (d : GroupDeclaration). d.name) c.builder.view_is in
+    passed_name c.args.builder.now (subst IsName name (c.is_name.ensures.0 c.if-not-is_name.false))
 
 pub returns-then-booleans-gt-MAX_BOOLEANS : goal.returns-then-booleans-gt-MAX_BOOLEANS
 returns-then-booleans-gt-MAX_BOOLEANS c =

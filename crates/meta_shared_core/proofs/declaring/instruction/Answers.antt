@@ -1,9 +1,23 @@
-use Rattle.std.proofs.Common.{ap, sym, subst, refl, ◌∙◌, Some}
+use Rattle.std.proofs.Common.{◌≡◌, ℕ, List, ap, sym, subst, refl, ◌∙◌, None, Some}
 use Rattle.std.proofs.lemmas.Result.{IfOk-from_err}
 use Rattle.meta_inst.specs.Builder.{Builder}
+use Rattle.meta_inst.specs.Marks.{no_marks}
+use Rattle.meta_shared_core.specs.Formats.{id_of}
+use Rattle.meta_shared_core.specs.Words.{Meanings}
+use Rattle.meta_shared_core.specs.declared.row.Row.{Row}
 use Rattle.meta_shared_core.specs.Rows.{IsBuilderOf, marks_added}
 use Rattle.meta_shared_core.proofs.Growing.{meant_grows, grows_more, operands_grow}
 use Rattle.meta_shared_core.proofs.declaring.instruction.Goals as goal
+
+abbrev the_builder : List ℕ → List ℕ → ℕ → Builder
+the_builder name doc format =
+    record { name = name; doc = doc; format = format; operands_in = None; operands_out = None; marks = no_marks; second = None }
+
+made : (row : Row) (m : Meanings) (name doc : List ℕ) (format : ℕ) → name ≡ row.name.now → doc ≡ row.doc.now
+    → format ≡ id_of m.formats row.format
+    → the_builder name doc format ≡ the_builder row.name.now row.doc.now (id_of m.formats row.format)
+made row m name doc format a b e =
+    λ i. the_builder (a i) (b i) (e i)
 
 pub operands-requires-2-clause-meant : goal.operands-requires-2-clause-meant
 operands-requires-2-clause-meant c = meant_grows c.in_ok-inputs.ensures.grows c.requires.meant
@@ -17,7 +31,9 @@ returns-clause-builder c = subst (IsBuilderOf c.operands-2.new.vars c.args.names
     ∙ ap (λ (b : Builder). record b { marks = marks_added b.marks c.args.row.now.marks.now })
     (c.operands_out-builder.ensures
     ∙ ap (λ (b : Builder). record b { operands_out = Some c.in_ok-outputs.outputs.items })
-    (c.operands_in.ensures ∙ ap (λ (b : Builder). record b { operands_in = Some c.in_ok-inputs.inputs.items }) c.in_ok-builder.ensures))))
+    (c.operands_in.ensures ∙ ap (λ (b : Builder). record b { operands_in = Some c.in_ok-inputs.inputs.items })
+    (c.new-builder.ensures ∙ made c.args.row.now c.args.names.now _ _ _ c.in_ok-name.ensures c.in_ok-doc.ensures
+    (c.id.ensures ∙ ap (λ (m : Meanings). id_of m.formats c.args.row.now.format) c.names.view_is))))))
     (record {
       name = refl;
       doc = refl;
@@ -40,8 +56,14 @@ returns-in_err-outputs-clause-builder c = IfOk-from_err c.from_residual-in_err-o
 pub returns-in_err-outputs-clause-grows : goal.returns-in_err-outputs-clause-grows
 returns-in_err-outputs-clause-grows c = IfOk-from_err c.from_residual-in_err-outputs.result _ c.from_residual-in_err-outputs.ensures.0
 
-pub returns-in_err-builder-clause-builder : goal.returns-in_err-builder-clause-builder
-returns-in_err-builder-clause-builder c = IfOk-from_err c.from_residual-in_err-builder.result _ c.from_residual-in_err-builder.ensures.0
+pub returns-in_err-name-clause-builder : goal.returns-in_err-name-clause-builder
+returns-in_err-name-clause-builder c = IfOk-from_err c.from_residual-in_err-name.result _ c.from_residual-in_err-name.ensures.0
 
-pub returns-in_err-builder-clause-grows : goal.returns-in_err-builder-clause-grows
-returns-in_err-builder-clause-grows c = IfOk-from_err c.from_residual-in_err-builder.result _ c.from_residual-in_err-builder.ensures.0
+pub returns-in_err-name-clause-grows : goal.returns-in_err-name-clause-grows
+returns-in_err-name-clause-grows c = IfOk-from_err c.from_residual-in_err-name.result _ c.from_residual-in_err-name.ensures.0
+
+pub returns-in_err-doc-clause-builder : goal.returns-in_err-doc-clause-builder
+returns-in_err-doc-clause-builder c = IfOk-from_err c.from_residual-in_err-doc.result _ c.from_residual-in_err-doc.ensures.0
+
+pub returns-in_err-doc-clause-grows : goal.returns-in_err-doc-clause-grows
+returns-in_err-doc-clause-grows c = IfOk-from_err c.from_residual-in_err-doc.result _ c.from_residual-in_err-doc.ensures.0

@@ -6,23 +6,23 @@ use Rattle.meta_shared_core.proofs.Numbered.{numbered_more}
 use Rattle.meta_shared_core.proofs.Added.{formats_more, formats_counted, front}
 use Rattle.meta_shared_core.proofs.formats.add_formats.Goals as goal
 
-pub loop-k-preserved : goal.loop-k-preserved
-loop-k-preserved c = record {
-  formats = formats_more _ _ _ _ _ _ _ _ c.loop-k-test.true c.loop-k.invariant.formats c.in_ok-add_format.ensures.added;
+pub loop-row-preserved : goal.loop-row-preserved
+loop-row-preserved c = record {
+  formats = formats_more _ _ _ _ _ _ _ _ c.loop-row-test.true c.loop-row.invariant.formats c.in_ok-add_format.ensures.added;
   numbers = subst (AreNumbered _ _) (sym c.in_ok-push.ensures.items)
-      (numbered_more _ _ _ _ c.loop-k.invariant.numbers (c.in_ok-add_format.ensures.number
-      ∙ formats_counted _ _ _ _ _ _ c.loop-k-test.true c.loop-k.invariant.formats));
+      (numbered_more _ _ _ _ c.loop-row.invariant.numbers (c.in_ok-add_format.ensures.number
+      ∙ formats_counted _ _ _ _ _ _ c.loop-row-test.true c.loop-row.invariant.formats));
 }
 
 pub returns-in_err-add_format-clause-front : goal.returns-in_err-add_format-clause-front
 returns-in_err-add_format-clause-front c =
-    on_err c.from_residual.result (front _ _ _ _ _ _ c.rows-rows.ensures (c.in_err-add_format.ensures.unchanged
-    ∙ c.loop-k.invariant.formats))
+    on_err c.from_residual.result (front _ _ _ _ _ _ c.requires.rows (c.in_err-add_format.ensures.unchanged
+    ∙ c.loop-row.invariant.formats))
 
 pub returns-in_err-push-clause-front : goal.returns-in_err-push-clause-front
 returns-in_err-push-clause-front c = on_err c.from_residual-in_err-push.result
-    (front _ _ _ _ _ _ c.rows-rows.ensures
-    (formats_more _ _ _ _ _ _ _ _ c.loop-k-test.true c.loop-k.invariant.formats c.in_ok-add_format.ensures.added))
+    (front _ _ _ _ _ _ c.requires.rows
+    (formats_more _ _ _ _ _ _ _ _ c.loop-row-test.true c.loop-row.invariant.formats c.in_ok-add_format.ensures.added))
 
 pub returns-in_err-add_format-clause-added : goal.returns-in_err-add_format-clause-added
 returns-in_err-add_format-clause-added c = IfOk-from_err c.from_residual.result _ c.from_residual.ensures.0

@@ -3,8 +3,8 @@ use Rattle.meta_shared_core.specs.Formats.{formats_of, AreNumbered}
 use Rattle.meta_shared_core.proofs.formats.add_formats.Given as goal
 
 -- the formats of the rows so far, with their numbers
-abbrev pub invariant-loop-k : goal.invariant-loop-k
-invariant-loop-k l = record {
-  formats : l.table ≡ l.initial.table ++ formats_of l.imm l.entities (take l.k l.rows);
-  numbers : AreNumbered (length l.initial.table) l.k l.ids.items;
+abbrev pub invariant-loop-row : goal.invariant-loop-row
+invariant-loop-row l = record {
+  formats : l.table ≡ l.initial.table ++ formats_of l.imm l.entities (take l.row-index l.rows);
+  numbers : AreNumbered (length l.initial.table) l.row-index l.ids.items;
 }

@@ -3,7 +3,7 @@ use Rattle.std.proofs.lemmas.List.{length-map}
 use Rattle.std.proofs.lemmas.Result.{IfOk-from_err}
 use Rattle.meta_inst.specs.Faults.{names_of}
 use Rattle.meta_settings.specs.GroupDeclaration.{GroupDeclaration}
-use Rattle.meta_declared.specs.AllDeclared.{Declared}
+use Rattle.meta_build.specs.AllDeclared.{Declared}
 use Rattle.meta_shared_core.specs.CoreFormats.{core_formats}
 use Rattle.meta_shared_core.specs.CoreNames.{core_names}
 use Rattle.meta_shared_core.specs.Formats.{AreNumberedFrom}

@@ -1,6 +1,6 @@
 use Rattle.std.proofs.Common.{◌++◌, codes, refl, ap, ◌∙◌}
 use Rattle.meta_types.specs.TypeNumber.{type_with}
-use Rattle.meta_meaning.specs.Tables.{ConcreteNumber}
+use Rattle.meta_inst.specs.Tables.{ConcreteNumber}
 use Rattle.meta_table_reader.proofs.TypesRead.{capitals, capitals_lack_parenthesis}
 use Rattle.meta_table_reader.proofs.ConstraintLines.{concrete_opened}
 use Rattle.meta_table_reader.proofs.constraints.concrete.Goals as goal

@@ -1,10 +1,10 @@
 use Rattle.std.proofs.Common.{◌≡◌, ℕ, suc, ◌+◌, ◌-◌, ◌<◌, ◌≤◌, [], ◌∷◌, ◌++◌, length, map, sym, ap, ◌∙◌, arith}
 use Rattle.std.proofs.lemmas.List.{take_all, map-append}
-use Rattle.meta_meaning.specs.Tables.{TableContents, OpcodeNumbers}
-use Rattle.meta_opcode_tables.specs.Constraint.{entry_of}
+use Rattle.meta_inst.specs.Tables.{TableContents, OpcodeNumbers}
+use Rattle.meta_gen.specs.Constraint.{entry_of}
 use Rattle.meta_table_text.specs.declared.version.Version.{Version}
 use Rattle.meta_table_text.specs.OpcodeText.{flags_lines, entry_fields, entry_block, opcode_block}
-use Rattle.meta_cursor.proofs.Reading.{one_within}
+use Rattle.meta_table_reader.proofs.ItemsRead.{one_within}
 use Rattle.meta_table_reader.specs.Shown.{IsShownEntry, AreShownOpcodes}
 use Rattle.meta_table_reader.proofs.EntryBlocks.{block_at}
 use Rattle.meta_table_reader.proofs.ByOpcode.{behind, from_first, next_first, no_more, few_opcodes}

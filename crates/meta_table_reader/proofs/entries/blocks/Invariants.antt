@@ -1,6 +1,6 @@
 use Rattle.std.proofs.Common.{◌≡◌, ℕ, List, ◌++◌, ◌-◌, length, map, take}
-use Rattle.meta_meaning.specs.Tables.{TableContents}
-use Rattle.meta_opcode_tables.specs.Constraint.{entry_of}
+use Rattle.meta_inst.specs.Tables.{TableContents}
+use Rattle.meta_gen.specs.Constraint.{entry_of}
 use Rattle.meta_table_text.specs.OpcodeText.{each_opcode, opcode_block}
 use Rattle.meta_table_reader.specs.Shown.{AreShownOpcodes}
 use Rattle.meta_table_reader.proofs.ByOpcode.{behind}

@@ -15,4 +15,4 @@ returns c = λ t rest shown e.
     ∙ list_grouped Entries n lines rest) in
     let (entries, b) = c.in_ok-entries.ensures t (list_end ++ rest) shown count (a
     ∙ ap (λ k. each_opcode (opcode_block c.args.version t) k ++ (list_end ++ rest)) (sym count)) in
-    (entries, c.skip_list_end.ensures rest b)
+    (entries, c.pass.ensures.item rest b)

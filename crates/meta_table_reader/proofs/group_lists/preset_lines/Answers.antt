@@ -6,7 +6,7 @@ use Rattle.meta_setting_tables.specs.declared.descriptor.Descriptor.{Descriptor}
 use Rattle.meta_table_text.specs.GroupItems.{texts_with_commas, comment_text}
 use Rattle.meta_setting_tables.specs.EntryValues.{masks_from, names_on}
 use Rattle.meta_table_text.specs.GroupText.{preset_text}
-use Rattle.meta_cursor.proofs.Reading.{one_within, front, only_rest_left}
+use Rattle.meta_table_reader.proofs.ItemsRead.{one_within, front, only_rest_left}
 use Rattle.meta_table_reader.specs.ShownGroup.{IsShownDescriptor, AreShownMasksOf}
 use Rattle.meta_table_reader.proofs.GroupLines.{comment_is_line, preset_parts}
 use Rattle.meta_table_reader.proofs.group_lists.preset_lines.Goals as goal

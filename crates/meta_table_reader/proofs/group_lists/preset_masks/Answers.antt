@@ -29,4 +29,4 @@ returns c = λ size masks rest shown presets e.
     let (each, same, joined) = sized ds ps size found masks (size_cases ps size found is) presets.each presets.joined in
     let (read, left) = c.in_ok-masks.ensures ds ps masks end shown
     (All-filter (λ (d : Descriptor). is_preset d.detail) IsShownDescriptor ds shown) each count (a ∙ ap (λ w. w ++ end) same) in
-    (read ∙ joined, c.skip_list_end.ensures rest left)
+    (read ∙ joined, c.pass.ensures.item rest left)

@@ -1,8 +1,8 @@
-use Rattle.std.proofs.Common.{ℕ, ◌+◌, ◌<◌, ◌≤◌, [], ◌∷◌, ◌++◌, length, get_or, take, drop, append_assoc, append-nil, sym, ap, ◌∙◌, arith}
+use Rattle.std.proofs.Common.{ℕ, ◌+◌, ◌<◌, ◌≤◌, [], ◌∷◌, ◌++◌, length, get_or, take, drop, append_assoc, append-nil, codes, sym, ap, ◌∙◌, arith}
 use Rattle.std.specs.List.{flat_map}
 use Rattle.std.proofs.lemmas.List.{take_all}
-use Rattle.meta_table_text.specs.GroupItems.{pair_text}
-use Rattle.meta_cursor.proofs.Reading.{one_within, front, only_rest_left, few_items}
+use Rattle.meta_table_text.specs.GroupItems.{binary_text, pair_text}
+use Rattle.meta_table_reader.proofs.ItemsRead.{one_within, front, only_rest_left, few_items}
 use Rattle.meta_table_reader.specs.ShownGroup.{IsByte}
 use Rattle.meta_table_reader.proofs.group_lists.push_masks.Goals as goal
 
@@ -14,17 +14,20 @@ pub loop-init : goal.loop-init
 loop-init c = λ ms rest all count e. (sym (append-nil c.args.masks.now.items), e)
 
 pub loop-preserved : goal.loop-preserved
+unfolding pair_text binary_text
 loop-preserved c = λ ms rest all count e.
     let i = c.loop.counter in
     let so_far = c.loop.invariant ms rest all count e in
     let within : i < length ms = omega (arith, c.loop-test.true, c.min-end.ensures, count) in
     let (mask, at, small) = one_within IsByte ms i all within in
-    let (read, left) = c.pair.ensures mask (flat_map pair_text (drop (i + 1) ms) ++ rest) small
+    let more = flat_map pair_text (drop (i + 1) ms) ++ rest in
+    let (read, a) = c.binary-mask.ensures.item mask (codes ", 0b" ++ (binary_text mask ++ (codes "),\n" ++ more))) small
     (front pair_text ms rest c.loop.cursor i mask at so_far.1) in
+    let (again, b) = c.binary.ensures.item mask (codes "),\n" ++ more) small a in
     let before = c.args.masks.now.items in (
       c.in_ok-push.ensures.items ∙ (λ k. so_far.0 k ++ read k ∷ []) ∙ append_assoc before (take i ms) (mask ∷ [])
           ∙ ap (λ w. before ++ w) (sym at.taken),
-      left,
+      c.pass.ensures.item more b,
     )
 
 pub returns : goal.returns

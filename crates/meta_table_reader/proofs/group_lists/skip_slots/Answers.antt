@@ -19,4 +19,4 @@ returns c = λ slots rest few e.
     (e ∙ list_grouped SettingSlots (length slots) lines rest) in
     let left = c.skip_lines.ensures.item (map slot_text slots) end (slots_are_lines slots)
     (count ∙ sym (length-map slots slot_text)) (a ∙ ap (λ w. w ++ end) (sym (flat_map-map (λ line. line) slot_text slots))) in
-    c.skip_list_end.ensures rest left
+    c.pass.ensures.item rest left

@@ -6,7 +6,7 @@ use Rattle.std.proofs.lemmas.List.{take_all, length-append}
 use Rattle.meta_setting_tables.specs.GroupTables.{GroupContents}
 use Rattle.meta_setting_tables.specs.Parts.{HasGroupParts}
 use Rattle.meta_table_text.specs.GroupText.{group_text}
-use Rattle.meta_cursor.proofs.Reading.{one_within, front, only_rest_left, few_items}
+use Rattle.meta_table_reader.proofs.ItemsRead.{one_within, front, only_rest_left, few_items}
 use Rattle.meta_table_reader.specs.ShownGroup.{AreShownGroup}
 use Rattle.meta_table_reader.proofs.GroupsTold.{group_some}
 use Rattle.meta_table_reader.proofs.Zipped.{zip_push}

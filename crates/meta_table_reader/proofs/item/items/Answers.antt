@@ -1,6 +1,6 @@
 use Rattle.std.proofs.Common.{◌<◌, ◌≤◌, ◌+◌, ◌++◌, length, get_or, ap, drop, arith}
 use Rattle.std.specs.List.{flat_map}
-use Rattle.meta_cursor.proofs.Reading.{one_within, front, one_more_read, all_read, few_items}
+use Rattle.meta_table_reader.proofs.ItemsRead.{one_within, front, one_more_read, all_read, few_items}
 use Rattle.meta_table_reader.proofs.item.items.Goals as goal
 
 pub loop-init : goal.loop-init

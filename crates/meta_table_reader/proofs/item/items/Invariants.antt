@@ -1,6 +1,6 @@
 use Rattle.std.proofs.Common.{◌≡◌, ℕ, List, ◌++◌, All, length}
 use Rattle.std.specs.List.{flat_map}
-use Rattle.meta_cursor.proofs.Reading.{AreRead}
+use Rattle.meta_table_reader.proofs.ItemsRead.{AreRead}
 use Rattle.meta_table_reader.proofs.item.items.Given as goal
 
 -- what is read, and what is left to read

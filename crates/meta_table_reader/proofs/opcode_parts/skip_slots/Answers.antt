@@ -20,4 +20,4 @@ returns c = λ t rest named few e.
     (e ∙ list_grouped OpcodeSlots (length slots) lines rest) in
     let left = c.skip_lines.ensures.item (map (slot_line t) slots) end (slots_are_lines t named slots)
     (count ∙ sym (length-map slots (slot_line t))) (a ∙ ap (λ w. w ++ end) (sym (flat_map-map (λ line. line) (slot_line t) slots))) in
-    c.skip_list_end.ensures rest left
+    c.pass.ensures.item rest left

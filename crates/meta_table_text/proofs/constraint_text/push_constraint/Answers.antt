@@ -1,7 +1,7 @@
 use Rattle.std.proofs.Common.{codes, string_bytes}
 use Rattle.std.proofs.lemmas.Result.{on_ok_weaker}
 use Rattle.meta_lists.proofs.Joined.{three, where_ok}
-use Rattle.meta_opcode_tables.specs.Constraint.{number_constraint_of}
+use Rattle.meta_gen.specs.Constraint.{number_constraint_of}
 use Rattle.meta_table_text.specs.ConstraintText.{constraint_text, constraint_line}
 use Rattle.meta_table_text.proofs.constraint_text.push_constraint.Goals as goal
 

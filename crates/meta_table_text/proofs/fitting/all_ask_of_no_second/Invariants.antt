@@ -1,6 +1,6 @@
 use Rattle.std.proofs.Common.{◌≡◌, map, drop}
 use Rattle.std.specs.List.{list_all}
-use Rattle.meta_opcode_tables.specs.Constraint.{number_constraint_of}
+use Rattle.meta_gen.specs.Constraint.{number_constraint_of}
 use Rattle.meta_table_text.specs.Fits.{asks_of_no_second}
 use Rattle.meta_table_text.proofs.fitting.all_ask_of_no_second.Given as goal
 

@@ -1,5 +1,5 @@
 use Rattle.std.proofs.Common.{sym, ap, ◌∙◌}
-use Rattle.meta_opcode_tables.specs.Demand.{number_constraint_demanded}
+use Rattle.meta_gen.specs.Demand.{number_constraint_demanded}
 use Rattle.meta_table_text.specs.Fits.{asks_of_no_second}
 use Rattle.meta_table_text.proofs.fitting.asks_of_no_second.Goals as goal
 

@@ -1,7 +1,8 @@
 use Rattle.std.proofs.Common.{◌++◌, ◌-◌, take, drop, get_or, length, flat_map, refl, sym, ap, ◌∙◌, codes, string_bytes}
 use Rattle.meta_lists.proofs.Joined.{two}
 use Rattle.meta_table_text.specs.GroupItems.{hex_text}
-use Rattle.meta_table_text.proofs.GroupLists.{none_left, all_is}
+use Rattle.meta_table_text.proofs.GroupLists.{none_left}
+use Rattle.meta_table_text.proofs.Lists.{all_is}
 use Rattle.meta_table_text.proofs.Bytes.{comma_hex, no_bytes, bytes_written, byte_more}
 use Rattle.meta_table_text.proofs.group_items.hex_bytes.Goals as goal
 
@@ -24,7 +25,7 @@ pub returns : goal.returns
 returns c =
     let rest = take (length c.args.bytes.now - 1) (drop 1 c.args.bytes.now) in
     let first = string_bytes c.push_hex.new.out in
-    all_is first (flat_map comma_hex rest) (string_bytes c.loop-byte.text) (flat_map comma_hex (drop c.loop-byte.byte-index rest))
+    all_is (first ++ flat_map comma_hex rest) (string_bytes c.loop-byte.text) (flat_map comma_hex (drop c.loop-byte.byte-index rest))
     c.loop-byte.invariant (ap (flat_map comma_hex) (none_left rest c.loop-byte.byte-index c.loop-byte-test.false))
     ∙ bytes_written c.args.bytes.now (string_bytes c.new-text.result) first c.in-len1-up.len_at_least c.new-text.ensures.bytes
     c.in_ok-push_hex.ensures

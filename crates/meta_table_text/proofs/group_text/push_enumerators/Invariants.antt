@@ -4,5 +4,5 @@ use Rattle.meta_table_text.proofs.group_text.push_enumerators.Given as goal
 
 -- what is written, and then what is left to write
 abbrev pub invariant-loop-name : goal.invariant-loop-name
-invariant-loop-name l = string_bytes l.out ++ flat_map enumerator_text (drop l.name-index l.names)
-    ≡ string_bytes l.initial.out ++ flat_map enumerator_text (l.names)
+invariant-loop-name l =
+    string_bytes l.lines ++ flat_map enumerator_text (drop l.name-index l.names) ≡ flat_map enumerator_text l.names

@@ -4,5 +4,5 @@ use Rattle.meta_table_text.proofs.group_text.push_slots.Given as goal
 
 -- what is written, and then what is left to write
 abbrev pub invariant-loop-slot : goal.invariant-loop-slot
-invariant-loop-slot l = string_bytes l.out ++ flat_map slot_text (drop l.slot-index l.slots)
-    ≡ string_bytes l.initial.out ++ flat_map slot_text (l.slots)
+invariant-loop-slot l =
+    string_bytes l.lines ++ flat_map slot_text (drop l.slot-index l.slots) ≡ flat_map slot_text l.slots

@@ -1,7 +1,7 @@
 use Rattle.std.proofs.Common.{◌+◌, map, take, drop, sym, ap, ◌∙◌}
 use Rattle.std.proofs.lemmas.List.{take-map, drop-map}
-use Rattle.meta_meaning.specs.Tables.{result_count, value_count}
-use Rattle.meta_opcode_tables.specs.Constraint.{number_constraint_of}
+use Rattle.meta_inst.specs.Tables.{result_count, value_count}
+use Rattle.meta_gen.specs.Constraint.{number_constraint_of}
 use Rattle.meta_table_text.proofs.opcode_block.constraints_of.Goals as goal
 
 pub returns : goal.returns

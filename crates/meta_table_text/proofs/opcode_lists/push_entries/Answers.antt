@@ -1,19 +1,18 @@
-use Rattle.std.proofs.Common.{◌++◌, length, ap, ◌∙◌, string_bytes}
+use Rattle.std.proofs.Common.{◌≡◌, ap, ◌∙◌, arith}
 use Rattle.std.proofs.lemmas.Result.{on_ok_weaker}
+use Rattle.meta_table_text.specs.declared.table_list.TableList.TheVariants.{Entries}
 use Rattle.meta_table_text.specs.OpcodeText.{each_opcode, opcode_block}
 use Rattle.meta_table_text.specs.TableText.{entries_part}
-use Rattle.meta_table_text.specs.declared.table_list.TableList.TheVariants.{Entries}
-use Rattle.meta_table_text.specs.Lists.{list_head, list_end}
-use Rattle.meta_lists.proofs.Joined.{three}
+use Rattle.meta_table_text.proofs.Lists.{list_is}
 use Rattle.meta_table_text.proofs.opcode_lists.push_entries.Goals as goal
 
 pub returns : goal.returns
 unfolding entries_part
 returns c =
     let t = c.args.tables.now.opcodes in
-    let old = string_bytes c.args.out.now in
-    let head = c.in_ok-push_list_head.ensures ∙ ap (λ n. old ++ list_head Entries n) c.opcode_count-count.ensures.count in
-    on_ok_weaker c.push_list_end.result
-    (three old (list_head Entries (length t.entries)) (each_opcode (opcode_block c.args.version t) (length t.entries))
-    list_end head c.in_ok-push_each_opcode.ensures)
-    c.push_list_end.ensures
+    let count = c.opcode_count-count.ensures.count in
+    let whole : c.loop-before.before ≡ c.opcode_count-count.result = omega (arith, c.loop-before-test.false, c.loop-before.auto.before-end) in
+    on_ok_weaker c.push_list.result
+    (λ e. list_is _ Entries _ _ _ _ _ e count c.as_str.ensures.value
+    (c.loop-before.invariant ∙ ap (each_opcode (opcode_block c.args.version t)) (whole ∙ count)))
+    c.push_list.ensures

@@ -2,7 +2,7 @@ use Rattle.std.proofs.Common.{◌++◌, ap, ◌∙◌, codes, string_bytes}
 use Rattle.std.proofs.lemmas.Result.{on_ok_weaker}
 use Rattle.meta_lists.proofs.Joined.{where_ok}
 use Rattle.meta_table_text.specs.TypeSetText.{members, part_of, masks_text}
-use Rattle.meta_table_text.proofs.Chains.{six}
+use Rattle.meta_table_text.proofs.Lists.{six}
 use Rattle.meta_table_text.proofs.type_set_text.push_set_text.Goals as goal
 
 pub returns : goal.returns

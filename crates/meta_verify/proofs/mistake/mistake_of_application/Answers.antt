@@ -1,6 +1,6 @@
 use Rattle.std.proofs.Common.{◌≡◌, false, true, map, sym, ap, ◌∙◌, subst, rules}
 use Rattle.meta_types.specs.TypeNumber.{type_with}
-use Rattle.meta_meaning.specs.Tables.{Allows}
+use Rattle.meta_inst.specs.Tables.{Allows}
 use Rattle.meta_verify.specs.Environment.{first_undefined, first_redefined, HaveTypes}
 use Rattle.meta_verify.specs.Numbers.{typed_value_of}
 use Rattle.meta_verify.specs.Defined.{environment_of}

@@ -1,6 +1,6 @@
 use Rattle.std.proofs.Common.{◌≡◌, Option, sym, ◌∙◌, subst, arith}
-use Rattle.meta_words.specs.Lines.{lines_of}
-use Rattle.meta_words.proofs.LineLemmas.{few_lines}
+use Rattle.meta_lines.specs.Lines.{lines_of}
+use Rattle.meta_lines.proofs.LineLemmas.{few_lines}
 use Rattle.meta_gen.specs.Reply.{AllowedReply}
 use Rattle.meta_verify.specs.Environment.{Environment}
 use Rattle.meta_verify.specs.Defined.{definitions}

@@ -1,5 +1,5 @@
 use Rattle.std.proofs.Common.{◌≡◌, drop}
-use Rattle.meta_words.specs.Lines.{lines_of}
+use Rattle.meta_lines.specs.Lines.{lines_of}
 use Rattle.meta_verify.specs.Defined.{definitions}
 use Rattle.meta_verify.proofs.VerdictLemmas.{AreRightSoFar}
 use Rattle.meta_verify.proofs.verdict.verdict.Given as goal

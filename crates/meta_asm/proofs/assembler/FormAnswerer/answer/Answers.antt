@@ -1,6 +1,6 @@
 use Rattle.std.proofs.Common.{string_bytes, sym, subst}
 use Rattle.std.proofs.lemmas.Result.{IfOk-weaker}
-use Rattle.meta_short.specs.Made.{AreMade}
+use Rattle.meta_asm.specs.Made.{AreMade}
 use Rattle.meta_asm.specs.Form.{written_in}
 use Rattle.meta_asm.specs.declared.form.Form.{Form}
 use Rattle.meta_asm.proofs.MeaningLemmas.{shortened_means, spelled_means}

@@ -1,6 +1,6 @@
 use Rattle.std.proofs.Common.{◌≡◌, ◌↔◌, ℕ, arith}
 use Rattle.meta_inst.specs.Which.{both}
-use Rattle.meta_meaning.specs.Tables.{PassesAt}
+use Rattle.meta_inst.specs.Tables.{PassesAt}
 use Rattle.meta_audit.proofs.Typed.{same_numbers}
 use Rattle.meta_audit.proofs.Deciding.{refused, granted, both_decide, both_differ, one_more, compared_equal, compared_other}
 use Rattle.meta_audit.proofs.places.Places.same_numbers.Goals as goal

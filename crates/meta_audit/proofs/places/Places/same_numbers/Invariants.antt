@@ -1,6 +1,6 @@
 use Rattle.std.proofs.Common.{◌≡◌, ◌↔◌, ◌<◌, ◌≤◌, ℕ}
 use Rattle.meta_inst.specs.Which.{both}
-use Rattle.meta_meaning.specs.Tables.{PassesAt}
+use Rattle.meta_inst.specs.Tables.{PassesAt}
 use Rattle.meta_audit.proofs.places.Places.same_numbers.Given as goal
 
 -- so far the same numbers pass

@@ -1,6 +1,6 @@
 use Rattle.std.proofs.Common.{◌≡◌, ◌↔◌, ℕ, Option, Some, IsTrue, sym, ◌∙◌, arith}
 use Rattle.std.proofs.lemmas.Bool.{false≢true}
-use Rattle.meta_meaning.specs.Tables.{ControlNumberFits}
+use Rattle.meta_inst.specs.Tables.{ControlNumberFits}
 use Rattle.meta_inst.specs.Controls.{which_of}
 use Rattle.meta_audit.specs.Comparison.{SameNumbers, paired}
 use Rattle.meta_audit.proofs.Typed.{fitting_typed}

@@ -1,5 +1,5 @@
 use Rattle.std.proofs.Common.{◌≡◌, ◌<◌, ◌≤◌, ℕ, Some}
-use Rattle.meta_meaning.specs.Tables.{ControlNumberFits}
+use Rattle.meta_inst.specs.Tables.{ControlNumberFits}
 use Rattle.meta_inst.specs.Controls.{which_of}
 use Rattle.meta_audit.specs.Comparison.{SameNumbers, paired}
 use Rattle.meta_audit.proofs.places.Places.same_under_each.Given as goal

@@ -1,5 +1,5 @@
 use Rattle.std.proofs.Common.{Option, string_bytes, subst}
-use Rattle.meta_words.specs.Lines.{lines_of}
+use Rattle.meta_lines.specs.Lines.{lines_of}
 use Rattle.meta_flags.specs.Served.{Served, State}
 use Rattle.meta_flags.specs.FlagAnswers.{AreFlagAnswers, IsOutputOver}
 use Rattle.meta_flags.specs.Held.{served_by}

@@ -1,7 +1,11 @@
+use Rattle.std.proofs.Common.{refl}
 use Rattle.std.proofs.lemmas.Result.{IfOk-from_err}
 use Rattle.meta_shared_core.proofs.Added.{all_counted}
 use Rattle.meta_shared_core.proofs.Numbered.{numbered_from, numbered_below}
 use Rattle.meta_shared_core.proofs.formats.Formats.new.Goals as goal
+
+pub add_formats-requires-clause-rows : goal.add_formats-requires-clause-rows
+add_formats-requires-clause-rows c = record { names = refl; sound = refl }
 
 pub returns-clause-count : goal.returns-clause-count
 returns-clause-count c = all_counted _ _ _ _ c.in_ok-ids.ensures.added

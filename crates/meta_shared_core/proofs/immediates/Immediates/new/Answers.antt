@@ -1,16 +1,18 @@
-use Rattle.std.proofs.Common.{◌∙◌, length, sym, ap}
+use Rattle.std.proofs.Common.{◌≡◌, ◌∙◌, length, map, sym, ap}
 use Rattle.std.proofs.lemmas.List.{length-map}
-use Rattle.meta_shared_core.specs.KindRows.{key_of_kind}
+use Rattle.meta_shared_core.specs.KindRows.{key_of_kind, immediate_keys}
 use Rattle.meta_shared_core.proofs.Kinded.{are_immediates, immediates_hold_none}
 use Rattle.meta_shared_core.proofs.immediates.Immediates.new.Goals as goal
 
 pub named-requires : goal.named-requires
-named-requires c = sym (length-map c.in_ok-make_kinds.field-0.items key_of_kind)
-    ∙ ap length (c.in_ok-make_kinds.ensures ∙ c.rows.ensures.keys_are)
+named-requires c =
+    let keys : map key_of_kind c.in_ok-make_kinds.field-0.items ≡ immediate_keys = c.in_ok-make_kinds.ensures in
+    sym (length-map c.in_ok-make_kinds.field-0.items key_of_kind) ∙ ap length keys
 
 pub returns-clause-kinds : goal.returns-clause-kinds
-returns-clause-kinds c = are_immediates _ c.in_ok-make_kinds.field-0.items c.named.ensures (c.in_ok-make_kinds.ensures
-    ∙ c.rows.ensures.keys_are)
+returns-clause-kinds c =
+    let keys : map key_of_kind c.in_ok-make_kinds.field-0.items ≡ immediate_keys = c.in_ok-make_kinds.ensures in
+    are_immediates _ c.in_ok-make_kinds.field-0.items c.named.ensures keys
 
 pub returns-clause-no_variable : goal.returns-clause-no_variable
 returns-clause-no_variable c = immediates_hold_none _ (returns-clause-kinds c)

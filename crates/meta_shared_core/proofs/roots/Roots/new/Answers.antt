@@ -1,4 +1,4 @@
-use Rattle.std.proofs.Common.{◌∙◌, ◌+◌, length, subst, sym, ap, arith}
+use Rattle.std.proofs.Common.{◌∙◌, ◌+◌, length, subst, sym, ap, refl, arith}
 use Rattle.std.proofs.lemmas.List.{length-append}
 use Rattle.std.proofs.lemmas.Result.{IfOk-from_err}
 use Rattle.meta_typevar.specs.Variable.{Variable}
@@ -6,6 +6,9 @@ use Rattle.meta_shared_core.specs.Formats.{AreNumbered}
 use Rattle.meta_shared_core.specs.Roots.{IsRootWith, set_of_root}
 use Rattle.meta_shared_core.proofs.Rooted.{vars_counted, mem_root, whole_numbers, number_named, roots_whole}
 use Rattle.meta_shared_core.proofs.roots.Roots.new.Goals as goal
+
+pub add_roots-requires-clause-rows : goal.add_roots-requires-clause-rows
+add_roots-requires-clause-rows c = record { sets = refl; buildable = refl }
 
 pub copy_from-requires-clause-room : goal.copy_from-requires-clause-room
 copy_from-requires-clause-room c = omega (arith, vars_counted c.in_ok-found.ensures)

@@ -6,8 +6,3 @@ use Rattle.meta_types.proofs.fault.FaultDetailDisplay.fmt.Goals as goal
 pub returns-in_ok-write_two-in-Four-clause-writes : goal.returns-in_ok-write_two-in-Four-clause-writes
 returns-in_ok-write_two-in-Four-clause-writes g c = written_both g.W.Write.write_str_gives _ _ _ _ _ _ _
     (λ p. c.in_ok-write_two-in-Four.ensures p refl) c.write_two-in-Four-2.ensures (rw (c.in-Four.is, append_assoc) refl)
-
-pub returns-in_ok-write_place-in-AtAndOne-clause-writes : goal.returns-in_ok-write_place-in-AtAndOne-clause-writes
-returns-in_ok-write_place-in-AtAndOne-clause-writes g c =
-    written_both g.W.Write.write_str_gives _ _ _ _ _ _ _
-    (λ p. c.in_ok-write_place-in-AtAndOne.ensures p refl) c.write_numbered-in-AtAndOne.ensures (ap fault_detail_text (sym c.in-AtAndOne.is))

@@ -1,8 +1,0 @@
-use Rattle.std.proofs.Common.{rules}
-use Rattle.meta_builder_constructors_text.proofs.imm_builders.Method.extends_sign.Goals as goal
-
-pub returns-in-SignExtends : goal.returns-in-SignExtends
-returns-in-SignExtends c = search rules
-
-pub returns-in-ZeroExtends : goal.returns-in-ZeroExtends
-returns-in-ZeroExtends c = search rules

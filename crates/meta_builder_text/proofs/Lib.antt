@@ -1,7 +1,0 @@
--- texts in angle brackets
-mod Angles
--- the operands of built instructions
-mod BuiltOperands
-mod After
-mod Behind
-mod Some

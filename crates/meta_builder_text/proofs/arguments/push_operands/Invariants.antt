@@ -1,9 +1,0 @@
-use Rattle.std.proofs.Common.{◌≡◌, ◌++◌, [], take, drop, string_bytes}
-use Rattle.meta_builder_text.specs.Arguments.{each_with_before, operand_arguments}
-use Rattle.meta_builder_text.proofs.arguments.push_operands.Given as goal
-
--- what is written, and then what is left to write
-abbrev pub invariant-loop-place : goal.invariant-loop-place
-invariant-loop-place l =
-    string_bytes l.out ++ each_with_before operand_arguments (take l.place l.operands) (drop l.place l.operands)
-    ≡ string_bytes l.initial.out ++ each_with_before operand_arguments [] l.operands

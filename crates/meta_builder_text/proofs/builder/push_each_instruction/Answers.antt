@@ -1,9 +1,0 @@
-use Rattle.std.proofs.Common.{length, refl}
-use Rattle.std.proofs.lemmas.Option.{slice_get_read}
-use Rattle.meta_builder_text.proofs.builder.push_each_instruction.Goals as goal
-
-pub push_methods-requires : goal.push_methods-requires
-push_methods-requires c =
-    c.requires c.loop-instruction.instruction-index c.instruction-item.result
-    (slice_get_read c.args.instructions.now (length c.args.instructions.now) c.loop-instruction.instruction-index c.instruction-item.result
-    refl c.loop-instruction-test.true c.instruction-item.is)

@@ -1,7 +1,0 @@
-use Rattle.meta_builder_text.proofs.builder.push_method.Goals as goal
-
-pub push_inst_builder-requires-clause-inputs : goal.push_inst_builder-requires-clause-inputs
-push_inst_builder-requires-clause-inputs c = c.requires.inputs
-
-pub push_inst_builder-requires-clause-outputs : goal.push_inst_builder-requires-clause-outputs
-push_inst_builder-requires-clause-outputs c = c.requires.outputs

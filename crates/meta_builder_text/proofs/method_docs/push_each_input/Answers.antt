@@ -1,7 +1,0 @@
-use Rattle.meta_builder_constructors_text.proofs.OperandVariables.{operand_of_registry}
-use Rattle.meta_builder_text.proofs.method_docs.push_each_input.Goals as goal
-
-pub push_input_docs-requires : goal.push_input_docs-requires
-push_input_docs-requires c tv has =
-    operand_of_registry c.args.vars.now c.args.operands.now c.loop-operand.operand-index c.operand-item.result tv
-    c.requires c.loop-operand-test.true c.operand-item.is has

@@ -1,9 +1,0 @@
-use Rattle.std.proofs.Common.{◌≡◌, rules, arith, true}
-use Rattle.std.proofs.lemmas.Grind.{common_steps}
-use Rattle.meta_builder_text.specs.Operands.{is_converted}
-use Rattle.meta_builder_text.proofs.type_parameters.push_bound.Goals as goal
-
-pub returns : goal.returns
-returns c =
-    let converted : is_converted c.args.operand.now ≡ true = search rules in
-    grind (arith, common_steps)

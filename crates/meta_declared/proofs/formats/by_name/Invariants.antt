@@ -1,6 +1,0 @@
-use Rattle.meta_declared.proofs.ByName.{AreOfFirst}
-use Rattle.meta_declared.proofs.formats.by_name.Given as goal
-
--- the formats so far stand by their names
-abbrev pub invariant-loop-place : goal.invariant-loop-place
-invariant-loop-place l = AreOfFirst l.formats l.used l.place l.ids.entries

@@ -1,5 +1,0 @@
-use Rattle.meta_declared.proofs.OneBuilt.{one_of_declared}
-use Rattle.meta_declared.proofs.laws.one_built.Goals as goal
-
-pub returns : goal.returns
-returns c = one_of_declared

@@ -1,7 +1,0 @@
-use Rattle.std.proofs.Common.{◌≡◌, ◌+◌, drop}
-use Rattle.meta_file.specs.Counts.{laid_entries_in}
-use Rattle.meta_file.proofs.checking.entry_count.Given as goal
-
--- the entries so far, and those of the groups that are left
-abbrev pub invariant-loop-group : goal.invariant-loop-group
-invariant-loop-group l = l.count + laid_entries_in (drop l.group-index l.groups) ≡ laid_entries_in l.groups

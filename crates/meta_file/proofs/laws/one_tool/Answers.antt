@@ -1,5 +1,0 @@
-use Rattle.meta_file.proofs.OneTool.{same_tool}
-use Rattle.meta_file.proofs.laws.one_tool.Goals as goal
-
-pub returns : goal.returns
-returns c = same_tool c.one_command.ensures c.one_form.ensures

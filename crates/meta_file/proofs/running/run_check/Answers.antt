@@ -1,4 +1,0 @@
-use Rattle.meta_file.proofs.running.run_check.Goals as goal
-
-pub returns : goal.returns
-returns g c = c.run_answerer.ensures.ran

@@ -1,0 +1,5 @@
+use Rattle.meta_file_declare.proofs.marks.second_at.Given as goal
+
+-- the same items
+abbrev pub ghost-type_var : goal.ghost-type_var
+ghost-type_var g a = g.said

@@ -1,0 +1,7 @@
+use Rattle.std.proofs.Common.{◌≡◌, ◌++◌, drop}
+use Rattle.meta_file_load.specs.ItemWhy.{opened}
+use Rattle.meta_file_load.proofs.item_why.write_opened.Given as goal
+
+-- what is added, and what is left to add
+abbrev pub invariant-loop-function : goal.invariant-loop-function
+invariant-loop-function l = l.out.items ++ opened (drop l.function-index l.functions) ≡ l.fn.out.items ++ opened l.functions

@@ -1,0 +1,2 @@
+pub mod ItemWhy
+pub mod Why

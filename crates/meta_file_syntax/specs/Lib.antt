@@ -1,0 +1,10 @@
+pub mod Encoding
+pub mod Keywords
+pub mod Laid
+pub mod Scan
+pub mod Squeezed
+pub mod TokenLines
+pub mod WordTables
+pub mod Named
+pub mod Spelling
+pub mod Words

@@ -1,3 +1,0 @@
--- formats of the table
-mod InTable
-mod Templates

@@ -1,5 +1,0 @@
-use Rattle.std.proofs.Common.{rules}
-use Rattle.meta_instructions_enums_text.proofs.opcodes.number_type.Goals as goal
-
-pub returns-else-count-gt-MAX_IN_A_BYTE : goal.returns-else-count-gt-MAX_IN_A_BYTE
-returns-else-count-gt-MAX_IN_A_BYTE c = search rules

@@ -1,6 +1,0 @@
-pub mod InUse
-pub mod FormatsText
-pub mod DataText
-pub mod OpcodeItems
-pub mod Accessors
-pub mod OpcodesText

@@ -1,3 +1,0 @@
-mod LastPart
-mod Letters
-pub mod Templates

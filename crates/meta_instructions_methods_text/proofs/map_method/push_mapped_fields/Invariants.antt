@@ -1,9 +1,0 @@
-use Rattle.std.proofs.Common.{◌≡◌, ◌++◌, drop, string_bytes, flat_map}
-use Rattle.meta_instructions_methods_text.specs.MapMethod.{mapped_field}
-use Rattle.meta_instructions_methods_text.proofs.map_method.push_mapped_fields.Given as goal
-
--- what is written, and then what is left to write
-abbrev pub invariant-loop-field : goal.invariant-loop-field
-invariant-loop-field l =
-    string_bytes l.out ++ flat_map mapped_field (drop l.field-index l.fields)
-    ≡ string_bytes l.initial.out ++ flat_map mapped_field l.fields

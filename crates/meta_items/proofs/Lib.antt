@@ -1,3 +1,0 @@
-mod Closing
-mod Spelled
-mod Written

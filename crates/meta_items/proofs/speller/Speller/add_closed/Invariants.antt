@@ -1,8 +1,0 @@
-use Rattle.std.proofs.Common.{◌≡◌, ◌++◌, drop}
-use Rattle.meta_items.specs.Spelling.{closed}
-use Rattle.meta_items.proofs.speller.Speller.add_closed.Given as goal
-
--- what is added, and what is left to add
-abbrev pub invariant-loop-function : goal.invariant-loop-function
-invariant-loop-function l = l.self.tokens.items ++ closed (drop l._function-index l.functions)
-    ≡ l.fn.self.tokens.items ++ closed l.functions

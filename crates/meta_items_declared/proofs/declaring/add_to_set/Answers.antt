@@ -1,8 +1,0 @@
-use Rattle.meta_items_insts.proofs.Staying.{holds_stay}
-use Rattle.meta_items_declared.proofs.declaring.add_to_set.Goals as goal
-
-pub add-requires-2 : goal.add-requires-2
-add-requires-2 g c = (
-  c.in_default.ensures.added,
-  holds_stay _ _ c.args.insts.now g.above.insts c.in_default.ensures.extends c.requires.insts,
-)

@@ -1,7 +1,0 @@
-use Rattle.meta_items_described.proofs.Inserted.{word_kept}
-use Rattle.meta_items_described.proofs.words.Words.keep.Goals as goal
-
-pub returns : goal.returns
-returns c =
-    word_kept c.args.self.now (record { given = c.insert.new.self }) c.in_ok-key.key c.args.word.now c.args.number
-    c.in_ok-key.ensures.items c.in_ok-insert.ensures.entries

@@ -1,5 +1,0 @@
-use Rattle.meta_items_insts.proofs.insts.Insts.add_format.Given as goal
-
--- the same items
-abbrev pub ghost-format_of : goal.ghost-format_of
-ghost-format_of g a = g.above.types

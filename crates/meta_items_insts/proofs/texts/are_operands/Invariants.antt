@@ -1,8 +1,0 @@
-use Rattle.std.proofs.Common.{◌≡◌, drop}
-use Rattle.meta_items_types.specs.Texts.{are_texts}
-use Rattle.meta_items_insts.specs.Texts.{operand_texts}
-use Rattle.meta_items_insts.proofs.texts.are_operands.Given as goal
-
--- what is left decides
-abbrev pub invariant-loop-operand : goal.invariant-loop-operand
-invariant-loop-operand l = are_texts (operand_texts (drop l.operand-index l.operands)) ≡ are_texts (operand_texts l.operands)

@@ -1,6 +1,0 @@
-use Rattle.meta_items_insts.proofs.Naming.{word_inserted}
-use Rattle.meta_items_insts.proofs.words.FormatWords.insert.Goals as goal
-
-pub returns : goal.returns
-returns c = word_inserted c.args.self.now (record { map = c.insert.new.self }) c.in_ok-key.key c.args.word.now c.args.kept
-    c.in_ok-key.ensures.items c.in_ok-insert.ensures.updates

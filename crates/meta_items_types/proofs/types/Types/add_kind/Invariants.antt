@@ -1,5 +1,0 @@
-use Rattle.meta_items_types.proofs.types.Types.add_kind.Given as goal
-
--- the same items
-abbrev pub ghost-sort_of : goal.ghost-sort_of
-ghost-sort_of g a = g.said

@@ -1,5 +1,0 @@
-use Rattle.meta_items_types.proofs.types.Types.plain_type.Given as goal
-
--- the same items
-abbrev pub ghost-new_plain : goal.ghost-new_plain
-ghost-new_plain g a = g.said

@@ -1,5 +1,0 @@
-use Rattle.meta_items_types.proofs.types.Types.sort_of.Given as goal
-
--- the same items
-abbrev pub ghost-type_var : goal.ghost-type_var
-ghost-type_var g a = g.said

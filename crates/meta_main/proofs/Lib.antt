@@ -1,6 +1,0 @@
-mod Behind
-mod First
-mod Line
-mod Numbers
-mod Plain
-mod Taken

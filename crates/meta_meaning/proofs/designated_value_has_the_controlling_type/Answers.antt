@@ -1,5 +1,0 @@
-use Rattle.meta_meaning.proofs.Inferring.{designated_typed}
-use Rattle.meta_meaning.proofs.designated_value_has_the_controlling_type.Goals as goal
-
-pub returns : goal.returns
-returns c = designated_typed

@@ -1,5 +1,0 @@
-pub mod Acceptance
-pub mod Constraint
-pub mod Inference
-pub mod OneControl
-pub mod Tables

@@ -1,0 +1,40 @@
+-- The line that a file is missing is plain, since the first word is one of three.
+use Rattle.std.proofs.Common.{◌≡◌, ◌∙◌, ℕ, true, inl, inr, List, [], ◌∷◌, ◌++◌, slice_get, Some}
+use Rattle.std.proofs.Common.{refl, sym, ap, subst}
+use Rattle.std.proofs.lemmas.Option.{same_Some}
+use Rattle.std.specs.Prelude.{codes}
+use Rattle.std.specs.List.{list_all}
+use Rattle.meta_command_line.specs.Usage.{IsPlain}
+use Rattle.meta_program.specs.declared.over.Over.{Over}
+use Rattle.meta_program.specs.declared.over.Over.TheVariants.{Shared, File}
+use Rattle.meta_program.proofs.ListRows.{is_plain_byte, plain_text}
+use Rattle.meta_program.specs.Wrong.{MissFile, IsFileMissing, SaysFileMissing, words_over}
+use Rattle.meta_program.proofs.Words.{first}
+
+-- a line that is this text
+pub plain_line : (text line : List ℕ) → list_all is_plain_byte text ≡ true → line ≡ text → IsPlain line
+plain_line text line plain is = subst IsPlain (sym is) (plain_text text plain)
+
+abbrev pub missing_text : List ℕ → List ℕ
+missing_text name = codes "a file is missing for '" ++ (name ++ codes "'")
+
+-- the name is the first word
+name_is : (words : List (List ℕ)) (name word : List ℕ) → slice_get words 0 ≡ Some name → first words ≡ word → name ≡ word
+name_is [] name word at is = absurd (cc)
+name_is (w ∷ words) name word at is = sym (same_Some _ _ at) ∙ is
+
+-- what is said of a name, if the first word is this one
+missing_is : (words : List (List ℕ)) (line word : List ℕ) → SaysFileMissing words line → first words ≡ word → line ≡ missing_text word
+missing_is words line word h is = h.is ∙ ap missing_text (name_is words h.name word h.first is)
+
+pub missing_plain : (words : List (List ℕ)) (line : List ℕ) → MissFile words → SaysFileMissing words line → IsPlain line
+missing_plain words line (inl (option, inl is, e)) h =
+    plain_line (missing_text (codes "-d")) line refl (missing_is words line (codes "-d") h (ap first e ∙ is))
+missing_plain words line (inl (option, inr is, e)) h =
+    plain_line (missing_text (codes "--declarations")) line refl (missing_is words line (codes "--declarations") h (ap first e ∙ is))
+missing_plain words line (inr e) h =
+    plain_line (missing_text (codes "check")) line refl (missing_is words line (codes "check") h (ap first e))
+
+pub missed : (over : Over) → IsFileMissing over → MissFile (words_over over)
+missed (Shared words) h = h
+missed (File path words) h = absurd h

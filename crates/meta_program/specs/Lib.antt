@@ -1,0 +1,17 @@
+pub mod TablesIn
+pub mod Counts
+pub mod Described
+pub mod Tool
+pub mod Over
+pub mod File
+pub mod FileRun
+pub mod Places
+pub mod Told
+pub mod NamedItems
+pub mod Names
+pub mod Checked
+pub mod CheckAnswers
+pub mod Plan
+pub mod Telling
+pub mod Trouble
+pub mod Wrong

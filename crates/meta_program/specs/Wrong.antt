@@ -1,0 +1,119 @@
+-- What is wrong with words that ask nothing.
+--     IsWrong over wrong        what the list of commands alone doesn't say
+--     IsWrongLine .. over line  the line says what is wrong with words over the shared declarations, or a file
+use Rattle.std.specs.Prelude.{◌≡◌, ◌≢◌, ◌⊎◌, ℕ, List, [], ◌∷◌, ◌++◌, codes, slice_get, Option, None, Some}
+use Rattle.meta_command_line.specs.Misuse.{AreCommandWords}
+use Rattle.meta_command_line.specs.Usage.{IsUsageLine}
+use Rattle.meta_command_line.specs.declared.manual.CommandForm.{CommandForm}
+use Rattle.meta_table_text.specs.declared.version.Version.{Version}
+use Rattle.meta_program.specs.declared.over.Over.{Over}
+use Rattle.meta_program.specs.declared.over.Over.TheVariants.{Shared, File}
+use Rattle.meta_program.specs.Over.{IsOption, rust_word}
+use Rattle.meta_program.specs.TablesIn.{version_word}
+use Rattle.meta_program.specs.Tool.{AskSomething}
+use Rattle.meta_program.specs.Plan.{BeginWithVersion}
+use Rattle.meta_program.specs.declared.wrong.Wrong.{Wrong}
+use Rattle.meta_program.specs.declared.wrong.Wrong.TheVariants.{FileMissing, WordTooMany, NoVersion, NoForm}
+
+-- a file is missing: `-d` or `--declarations` alone, or `check --rust`
+abbrev pub MissFile : List (List ℕ) → Type 0
+MissFile words = ((option : List ℕ) × IsOption option × (words ≡ option ∷ []))
+    ⊎ (words ≡ codes "check" ∷ (rust_word ∷ []))
+
+-- a check of a file, and a word more: `check FILE WORD ..`
+pub record CheckMore (words : List (List ℕ)) : Type 0 where
+  pub path : List ℕ
+  pub not_rust : path ≢ rust_word
+  pub word : List ℕ
+  pub behind : List (List ℕ)
+  pub are : words ≡ codes "check" ∷ (path ∷ (word ∷ behind))
+
+-- the same, and names are refused: `check --rust FILE WORD ..`
+pub record CheckRustMore (words : List (List ℕ)) : Type 0 where
+  pub path : List ℕ
+  pub word : List ℕ
+  pub behind : List (List ℕ)
+  pub are : words ≡ codes "check" ∷ (rust_word ∷ (path ∷ (word ∷ behind)))
+
+-- the same for a file that is named before: `check --rust WORD ..`
+pub record RustMore (words : List (List ℕ)) : Type 0 where
+  pub word : List ℕ
+  pub behind : List (List ℕ)
+  pub are : words ≡ codes "check" ∷ (rust_word ∷ (word ∷ behind))
+
+-- tables in a version, and a word more: `tables --version N WORD ..`
+pub record VersionMore (words : List (List ℕ)) : Type 0 where
+  pub version : Version
+  pub word : List ℕ
+  pub behind : List (List ℕ)
+  pub are : words ≡ codes "tables" ∷ (codes "--version" ∷ (version_word version ∷ (word ∷ behind)))
+
+-- the word at this place, from 0, is the first that is too many after a check or tables in a version
+abbrev pub IsTooMany : Over → ℕ → Type 0
+IsTooMany (Shared words) place = ((place ≡ 2) × CheckMore words.now)
+    ⊎ ((place ≡ 3) × (CheckRustMore words.now ⊎ VersionMore words.now))
+IsTooMany (File path words) place = ((place ≡ 2) × RustMore words.now) ⊎ ((place ≡ 3) × VersionMore words.now)
+
+-- `tables --version` and a word that is no version
+pub record NameNoVersion (words : List (List ℕ)) : Type 0 where
+  pub begin : BeginWithVersion words
+  pub none : (version : Version) → begin.version ≢ version_word version
+
+-- the words begin with `asm`
+pub record BeginWithAsm (words : List (List ℕ)) : Type 0 where
+  pub behind : List (List ℕ)
+  pub are : words ≡ codes "asm" ∷ behind
+
+-- the words that are asked
+abbrev pub words_over : Over → List (List ℕ)
+words_over (Shared words) = words.now
+words_over (File path words) = words.now
+
+-- a file is missing; it isn't if one is named
+abbrev pub IsFileMissing : Over → Type 0
+IsFileMissing (Shared words) = MissFile words.now
+IsFileMissing (File path words) = ⊥
+
+-- what is wrong with the words, if they ask nothing
+abbrev pub IsWrong : Over → Wrong → Type 0
+IsWrong over FileMissing = IsFileMissing over
+IsWrong over (WordTooMany place) = IsTooMany over place
+IsWrong over NoVersion = NameNoVersion (words_over over)
+IsWrong over NoForm = BeginWithAsm (words_over over)
+
+-- that, or the list of commands says what is wrong
+abbrev pub IsWrongIfAny : Over → Option Wrong → Type 0
+IsWrongIfAny over (Some wrong) = IsWrong over wrong
+IsWrongIfAny over None = (wrong : Wrong) → IsWrong over wrong → ⊥
+
+-- a file is missing for the first word
+pub record SaysFileMissing (words : List (List ℕ)) (line : List ℕ) : Type 0 where
+  pub name : List ℕ
+  pub first : slice_get words 0 ≡ Some name
+  pub is : line ≡ codes "a file is missing for '" ++ (name ++ codes "'")
+
+-- the line is that of two words: the first word, and the word at this place
+pub record SaysTooMany (commands : List CommandForm) (words : List (List ℕ)) (place : ℕ) (line : List ℕ) : Type 0 where
+  pub name : List ℕ
+  pub first : slice_get words 0 ≡ Some name
+  pub word : List ℕ
+  pub at : slice_get words place ≡ Some word
+  pub is : IsUsageLine commands (name ∷ (word ∷ [])) line
+
+-- the line says what is wrong, if these are the commands
+abbrev pub Says : List CommandForm → List (List ℕ) → Option Wrong → List ℕ → Type 0
+Says commands words (Some FileMissing) line = SaysFileMissing words line
+Says commands words (Some (WordTooMany place)) line = SaysTooMany commands words place line
+Says commands words (Some NoVersion) line = line ≡ codes "the versions of 'tables' are 1, 2 and 3"
+Says commands words (Some NoForm) line = line ≡ codes "the forms of 'asm' are short and explicit"
+Says commands words None line = IsUsageLine commands words line
+
+-- the line says what is wrong with the words
+pub record IsWrongLine (commands : List CommandForm) (over : Over) (line : List ℕ) : Type 0 where
+  pub wrong : Option Wrong
+  pub is_wrong : IsWrongIfAny over wrong
+  pub says : Says commands (words_over over) wrong line
+
+-- words of these commands ask something, but for `asm` alone
+abbrev pub AskWhatIsListed : List CommandForm → Type 0
+AskWhatIsListed commands = (words : List (List ℕ)) → AreCommandWords commands words → AskSomething words ⊎ (words ≡ codes "asm" ∷ [])

@@ -1,0 +1,80 @@
+ghost use Rattle.std.specs.Prelude.{◌≡◌, ◌+◌, IfOk, length, string_bytes};
+ghost use Rattle.meta_program.specs.Counts.{entries_in, laid_entries_in, check_line, IsCheckLine};
+
+use meta_build::Built;
+use meta_gen::{Tables, tables_of};
+use meta_settings::SettingGroup;
+use std::alloc::{AllocError, Global};
+
+#[derive(Clone, Copy)]
+struct Counts {
+    instructions: usize,
+    formats: usize,
+    type_sets: usize,
+    constraints: usize,
+    entries: usize,
+}
+
+/// The sum. If it is too great for a count of things in memory, the error is `AllocError`.
+fn sum(count: usize, more: usize) -> Result<usize, AllocError>
+    ensures { IfOk result (λ n. n ≡ count + more) }
+{
+    count.checked_add(more).ok_or(AllocError)
+}
+
+fn entry_count(groups: &[SettingGroup]) -> Result<usize, AllocError>
+    ensures { IfOk result (λ n. n ≡ laid_entries_in groups.now) }
+{
+    let mut count = 0;
+    for group in groups {
+        let entries = sum(group.settings().len(), group.presets().len())?;
+        count = sum(count, entries)?;
+    }
+    Ok(count)
+}
+
+impl Counts {
+    #[tactic(auto, unfolding(crate::specs::Counts::check_line))]
+    fn line(&self, alloc: Global) -> Result<String, AllocError>
+        ensures { IfOk result (λ text. string_bytes text ≡ check_line self.now.instructions self.now.formats
+            self.now.type_sets self.now.constraints self.now.entries) }
+    {
+        let instructions = self.instructions;
+        let formats = self.formats;
+        let type_sets = self.type_sets;
+        let constraints = self.constraints;
+        let entries = self.entries;
+        format!(in alloc;
+            "ok: {instructions} instructions, {formats} formats, {type_sets} type sets, {constraints} constraints, \
+            {entries} settings and presets\n"
+        )
+    }
+}
+
+#[tactic(auto, using(crate::proofs::Counted::entries_built))]
+fn counts_of(built: &Built<'_>, tables: &Tables) -> Result<Counts, AllocError>
+    ensures instructions { IfOk result (λ c. c.instructions ≡ length built.now.declared.set.instructions) }
+    ensures formats { IfOk result (λ c. c.formats ≡ length built.now.declared.set.formats) }
+    ensures type_sets { IfOk result (λ c. c.type_sets ≡ length tables.now.opcodes.type_sets) }
+    ensures constraints { IfOk result (λ c. c.constraints ≡ length tables.now.opcodes.operand_constraints) }
+    ensures entries { IfOk result (λ c. c.entries ≡ entries_in built.now.declared.groups) }
+{
+    let declarations = built.declarations();
+    Ok(Counts {
+        instructions: declarations.instructions().len(),
+        formats: declarations.formats().len(),
+        type_sets: tables.type_sets().len(),
+        constraints: tables.operand_constraints().len(),
+        entries: entry_count(built.groups())?,
+    })
+}
+
+/// How much of each kind there is in what was built of declarations, as `check` writes it.
+#[tactic(auto, using(crate::proofs::Counted::counted))]
+pub(crate) fn counted(alloc: Global, built: &Built<'_>) -> Result<String, AllocError>
+    ensures { IfOk result (λ line. IsCheckLine built.now.declared (string_bytes line)) }
+{
+    let tables = tables_of(alloc, built)?;
+    let counts = counts_of(built, &tables)?;
+    counts.line(alloc)
+}

@@ -1,0 +1,185 @@
+ghost use Rattle.std.specs.Prelude.{◌≡◌, ◌↔◌, ◌∷◌, ℕ, IsTrue, IfSome, IfNone};
+ghost use Rattle.meta_table_text.specs.declared.version.Version as spec_version;
+ghost use Rattle.meta_program.specs.TablesIn.{version_word};
+ghost use Rattle.meta_program.specs.Wrong.{MissFile, CheckMore, CheckRustMore, RustMore, VersionMore, IsTooMany, NameNoVersion};
+ghost use Rattle.meta_program.specs.Wrong.{BeginWithAsm, IsFileMissing, IsWrong, words_over};
+ghost use Rattle.meta_program.specs.declared.wrong.Wrong as spec;
+
+use super::over::{Over, is_check, is_option, is_rust};
+use super::tables_in::are_for_version;
+use super::tool::is_asm;
+use meta_types::Text;
+
+/// What is wrong with words that ask nothing, apart from what the list of commands says.
+#[derive(Clone, Copy, Debug, PartialEq, Eq)]
+pub enum Wrong {
+    /// A file is missing after the first word.
+    FileMissing,
+    /// The word at this place, from 0, is too many for the first word.
+    WordTooMany(usize),
+    /// The word after `tables --version` is no version.
+    NoVersion,
+    /// The words after `asm` are no form.
+    NoForm,
+}
+
+fn is_version(word: &Text) -> bool
+    ensures some { IsTrue result → (version : spec_version.Version) × (word.now ≡ version_word version) }
+    ensures all { ((version : spec_version.Version) × (word.now ≡ version_word version)) → IsTrue result }
+{
+    let word = word.as_bytes();
+    word == b"1".as_slice() || word == b"2".as_slice() || word == b"3".as_slice()
+}
+
+fn miss_file(words: &[Text]) -> bool
+    ensures { IsTrue result ↔ MissFile words.now }
+{
+    match words {
+        [option] => is_option(option),
+        [name, rust] => is_check(name) && is_rust(rust),
+        _ => false,
+    }
+}
+
+/// Whether the words are a check of a file, and more.
+fn are_check_more(words: &[Text]) -> bool
+    ensures { IsTrue result ↔ CheckMore words.now }
+{
+    match words {
+        [name, path, _word, _behind @ ..] => is_check(name) && !is_rust(path),
+        _ => false,
+    }
+}
+
+/// Whether the words are a check that refuses names, and more.
+fn are_check_rust_more(words: &[Text]) -> bool
+    ensures { IsTrue result ↔ CheckRustMore words.now }
+{
+    match words {
+        [name, rust, _path, _word, _behind @ ..] => is_check(name) && is_rust(rust),
+        _ => false,
+    }
+}
+
+/// Whether the words are such a check of a file that is named before, and more.
+fn are_rust_more(words: &[Text]) -> bool
+    ensures { IsTrue result ↔ RustMore words.now }
+{
+    match words {
+        [name, rust, _word, _behind @ ..] => is_check(name) && is_rust(rust),
+        _ => false,
+    }
+}
+
+fn are_version_more(words: &[Text]) -> bool
+    ensures { IsTrue result ↔ VersionMore words.now }
+{
+    match words {
+        [name, option, version, _word, _behind @ ..] => {
+            are_for_version(name, option) && is_version(version)
+        }
+        _ => false,
+    }
+}
+
+/// Whether the words are `tables --version` and no version, if there are at least three.
+fn no_version_behind(
+    words: &[Text],
+    name: &Text,
+    option: &Text,
+    version: &Text,
+    behind: &[Text],
+) -> bool
+    requires { words.now ≡ name.now ∷ (option.now ∷ (version.now ∷ behind.now)) }
+    ensures { IsTrue result ↔ NameNoVersion words.now }
+{
+    if is_version(version) {
+        return false;
+    }
+    are_for_version(name, option)
+}
+
+/// Whether the words are `tables --version` and no version.
+fn name_no_version(words: &[Text]) -> bool
+    ensures { IsTrue result ↔ NameNoVersion words.now }
+{
+    match words {
+        [name, option, version, behind @ ..] => {
+            no_version_behind(words, name, option, version, behind)
+        }
+        _ => false,
+    }
+}
+
+fn begin_with_asm(words: &[Text]) -> bool
+    ensures { IsTrue result ↔ BeginWithAsm words.now }
+{
+    match words {
+        [name, _behind @ ..] => is_asm(name),
+        _ => false,
+    }
+}
+
+fn is_file_missing(over: &Over<'_>) -> bool
+    ensures { IsTrue result ↔ IsFileMissing over.now }
+{
+    match over {
+        Over::Shared(words) => miss_file(words),
+        Over::File(_, _) => false,
+    }
+}
+
+/// The place of the first word that is too many after a check or tables in a version.
+fn too_many(over: &Over<'_>) -> Option<usize>
+    ensures some { IfSome result (IsTooMany over.now) }
+    ensures none { IfNone result ((place : ℕ) → ¬ IsTooMany over.now place) }
+{
+    match over {
+        Over::Shared(words) => {
+            if are_check_more(words) {
+                return Some(2);
+            }
+            if are_check_rust_more(words) || are_version_more(words) {
+                return Some(3);
+            }
+            None
+        }
+        Over::File(_, words) => {
+            if are_rust_more(words) {
+                return Some(2);
+            }
+            are_version_more(words).then_some(3)
+        }
+    }
+}
+
+pub(crate) fn words_of<'w>(over: &Over<'w>) -> &'w [Text]
+    ensures { result.now ≡ words_over over.now }
+{
+    match over {
+        Over::Shared(words) => words,
+        Over::File(_, words) => words,
+    }
+}
+
+impl Wrong {
+    /// What is wrong with words that ask nothing over the shared declarations or a file. It is `None` if the list of commands says what is
+    /// wrong.
+    #[tactic(auto, using(crate::proofs::NotWrong::not_wrong))]
+    pub fn of(over: &Over<'_>) -> Option<Wrong>
+        ensures some { IfSome result (IsWrong over.now) }
+        ensures none { IfNone result ((wrong : spec.Wrong) → ¬ IsWrong over.now wrong) }
+    {
+        if is_file_missing(over) {
+            return Some(Wrong::FileMissing);
+        }
+        if let Some(place) = too_many(over) {
+            return Some(Wrong::WordTooMany(place));
+        }
+        let words = words_of(over);
+        if name_no_version(words) {
+            return Some(Wrong::NoVersion);
+        }
+        begin_with_asm(words).then_some(Wrong::NoForm)
+    }
+}

@@ -1,7 +1,0 @@
-use Rattle.std.proofs.Common.{◌≡◌, ◌++◌, drop}
-use Rattle.meta_refusals.specs.ItemWhy.{closed}
-use Rattle.meta_refusals.proofs.item_why.write_closed.Given as goal
-
--- what is added, and what is left to add
-abbrev pub invariant-loop-function : goal.invariant-loop-function
-invariant-loop-function l = l.out.items ++ closed (drop l._function-index l.functions) ≡ l.fn.out.items ++ closed l.functions

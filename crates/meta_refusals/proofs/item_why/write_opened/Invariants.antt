@@ -1,7 +1,0 @@
-use Rattle.std.proofs.Common.{◌≡◌, ◌++◌, drop}
-use Rattle.meta_refusals.specs.ItemWhy.{opened}
-use Rattle.meta_refusals.proofs.item_why.write_opened.Given as goal
-
--- what is added, and what is left to add
-abbrev pub invariant-loop-function : goal.invariant-loop-function
-invariant-loop-function l = l.out.items ++ opened (drop l.function-index l.functions) ≡ l.fn.out.items ++ opened l.functions

@@ -1,0 +1,17 @@
+pub mod Held
+pub mod EntityWord
+pub mod Members
+pub mod ReadMethods
+pub mod EqMethod
+pub mod HashMethod
+pub mod Rebuilt
+pub mod DeepCloneMethod
+pub mod MapMethod
+pub mod Arms
+pub mod DataImpl
+pub mod InUse
+pub mod FormatsText
+pub mod DataText
+pub mod OpcodeItems
+pub mod Accessors
+pub mod OpcodesText

@@ -1,7 +1,0 @@
-use Rattle.std.proofs.Common.{◌≡◌, drop}
-use Rattle.meta_rust_words.specs.Comments.{breaks_comment}
-use Rattle.meta_rust_words.proofs.comments.breaks_comment.Given as goal
-
--- what is told from the place on is told of all
-abbrev pub invariant-loop-place : goal.invariant-loop-place
-invariant-loop-place l = breaks_comment (drop l.place l.bytes) ≡ breaks_comment l.bytes

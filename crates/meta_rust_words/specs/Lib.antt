@@ -1,6 +1,0 @@
-pub mod Words
-pub mod Comments
-pub mod Refused
-pub mod Forms
-pub mod Known
-pub mod Texts

@@ -1,7 +1,0 @@
-use Rattle.std.proofs.Common.{◌≡◌, ◌≤◌, take}
-use Rattle.meta_setting_tables.specs.WellFormed.{own_byte_count}
-use Rattle.meta_setting_tables.proofs.shape.own_bytes_in.Given as goal
-
--- those so far are counted
-abbrev pub invariant-loop-entry : goal.invariant-loop-entry
-invariant-loop-entry l = (l.count ≡ own_byte_count (take l.entry-index l.entries)) × (l.count ≤ l.entry-index)

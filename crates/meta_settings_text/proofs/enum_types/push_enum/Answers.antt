@@ -1,6 +1,0 @@
-use Rattle.std.proofs.Common.{rules, sym}
-use Rattle.meta_settings_text.proofs.Templates.{enum_same}
-use Rattle.meta_settings_text.proofs.enum_types.push_enum.Goals as goal
-
-pub returns : goal.returns
-returns c = rw (sym (enum_same c.args.group.now c.args.name.now c.args.values.now)) (search rules)

@@ -1,4 +1,0 @@
-pub mod FlagsText
-pub mod EnumText
-pub mod GetterText
-pub mod SettingsText

@@ -1,6 +1,0 @@
-use Rattle.meta_short.proofs.OneLine.{one_line}
-use Rattle.meta_short.proofs.DeclaredLine.{one_line_declared}
-use Rattle.meta_short.proofs.laws.one_line_reads.Goals as goal
-
-pub returns : goal.returns
-returns c = record { tables = one_line; declared = one_line_declared }

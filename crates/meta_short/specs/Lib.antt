@@ -1,6 +1,0 @@
-pub mod Short
-pub mod Parts
-pub mod Manners
-pub mod Reading
-pub mod Made
-pub mod Written

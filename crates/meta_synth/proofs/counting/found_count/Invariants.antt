@@ -1,6 +1,0 @@
-use Rattle.meta_synth.specs.Summary.{CountsTo, IsFoundByName}
-use Rattle.meta_synth.proofs.counting.found_count.Given as goal
-
--- how many of the opcodes so far
-abbrev pub invariant-loop-place : goal.invariant-loop-place
-invariant-loop-place l = CountsTo (IsFoundByName l.tables.opcodes) l.place l.count

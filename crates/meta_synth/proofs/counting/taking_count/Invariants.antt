@@ -1,6 +1,0 @@
-use Rattle.meta_synth.specs.Summary.{CountsTo, TakesEverywhere}
-use Rattle.meta_synth.proofs.counting.taking_count.Given as goal
-
--- how many of the opcodes so far
-abbrev pub invariant-loop-place : goal.invariant-loop-place
-invariant-loop-place l = CountsTo (TakesEverywhere l.tables.opcodes l.number) l.place l.count

@@ -1,4 +1,0 @@
-pub mod Shapes
-pub mod Seeds
-pub mod Synth
-pub mod Summary
