@@ -18,7 +18,7 @@ Commands:
   builder         the builder of instructions as Rust source
   query           an answer to each line of standard input
   recheck         same, different or refused, as what the text of tables in standard input reads as;
-                  then the answers of those tables to the lines behind the line `// Queries.`
+                  then the answers of those tables to the lines after the line `// Queries.`
   synth N         a line on the tables of the declarations that are made from a number
   verify          ok, or which line of the list in standard input is the first wrong one, and why
   asm short       the list in standard input with the types left out that the others tell

@@ -21,7 +21,7 @@ use Rattle.meta_verify.specs.Environment.{Environment, nothing_defined, with_val
 use Rattle.meta_verify.specs.Wrong.{Replies, IsAccepted, IsRight}
 use Rattle.meta_verify.proofs.StatementLemmas.{one_statement}
 use Rattle.meta_types.specs.TypeParts.{name_of}
-use Rattle.meta_asm.specs.Short.{Manner, short_results, short_result_text, joined, behind, control_written, values_written, results_part}
+use Rattle.meta_asm.specs.Short.{Manner, short_results, short_result_text, joined, then_part, control_written, values_written, results_part}
 use Rattle.meta_asm.specs.Short.{parameter_text, short_application, short_text}
 use Rattle.meta_asm.specs.Manners.{IsMannerIn, IsMannerDeclared}
 use Rattle.meta_asm.specs.Reading.{Manners, IsShort}
@@ -97,14 +97,14 @@ application_lacks : (byte : ℕ) → byte < 32 → (m : Manner) (a : Application
     → Lacks byte (short_application m a)
 application_lacks byte h m a can name =
     All-append (λ b. b ≢ byte) (results_part (map short_result_text (short_results m.opened a.results)))
-    (a.name ++ (behind 46 (control_written m.leaves_out a.control a.second) ++ behind 32 (values_written (map value_text a.values))))
+    (a.name ++ (then_part 46 (control_written m.leaves_out a.control a.second) ++ then_part 32 (values_written (map value_text a.values))))
     (part_lacks byte h (map short_result_text (short_results m.opened a.results))
     (short_lacks byte m.opened a.results (low_mark byte h) (λ e. omega (arith, h, e)) can.results))
-    (All-append (λ b. b ≢ byte) a.name (behind 46 (control_written m.leaves_out a.control a.second)
-    ++ behind 32 (values_written (map value_text a.values)))
+    (All-append (λ b. b ≢ byte) a.name (then_part 46 (control_written m.leaves_out a.control a.second)
+    ++ then_part 32 (values_written (map value_text a.values)))
     (All-weaker IsNameByte (λ b. b ≢ byte) (λ b is. low_name b byte h is) a.name name)
-    (All-append (λ b. b ≢ byte) (behind 46 (control_written m.leaves_out a.control a.second))
-    (behind 32 (values_written (map value_text a.values)))
+    (All-append (λ b. b ≢ byte) (then_part 46 (control_written m.leaves_out a.control a.second))
+    (then_part 32 (values_written (map value_text a.values)))
     (control_lacks byte m.leaves_out a.control a.second (low_mark byte h) (λ e. omega (arith, h, e))
     (λ e. omega (arith, h, e)) can.control can.second)
     (values_lack byte a.values (low_mark byte h) (λ e. omega (arith, h, e)) (λ e. omega (arith, h, e)) can.values)))

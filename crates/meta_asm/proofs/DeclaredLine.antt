@@ -20,7 +20,7 @@ use Rattle.meta_inst.specs.Tables.{DesignatedControls}
 use Rattle.meta_inst.proofs.Inferring.{result_inferred, only_inferred, designated_typed}
 use Rattle.meta_gen.proofs.ValidNames.{is_name_where}
 use Rattle.meta_gen.proofs.Derivations.{no_bad_place}
-use Rattle.meta_lines.specs.Control.{IsBehind}
+use Rattle.meta_lines.specs.Control.{IsAfter}
 use Rattle.meta_gen.specs.Reply.{IsAskedFor, AcceptsAsked, AcceptedReply}
 use Rattle.meta_inst.proofs.ValidControls.{good_second, well_derived}
 use Rattle.meta_verify.specs.Statement.{TypedValue, Application, OfApplication, CanApply}
@@ -75,7 +75,7 @@ module _ (sets : Sets) (i : Instruction) (control : Option Variable) (controlled
 
   -- so controls that are written alike are the same
   same_controls : (leaves_out : Bool) → leaves_out ≡ m.leaves_out → (c d e g : Option TypeParts) (rs ps : List TypeParts) → IfSome c IsType
-      → IfSome d IsType → IsBehind c d → IfSome e IsType → IfSome g IsType → IsBehind e g
+      → IfSome d IsType → IsAfter c d → IfSome e IsType → IfSome g IsType → IsAfter e g
       → control_written leaves_out c d ≡ control_written leaves_out e g → Accepts sets i control c d rs vs
       → Accepts sets i control e g ps vs → (c ≡ e) × (d ≡ g)
   same_controls true is c d e g rs ps hc hd hb he hg gb w x y = left_out c d e g rs ps x y (manner.leaves_out.0 (sym is))
@@ -146,7 +146,7 @@ module _ (d : InstructionSet) (valid : IsValid d) where
         let written : control_written m.leaves_out a.control a.second ≡ control_written m.leaves_out b.control b.second = parts.controls
         ∙ ap (λ (z : Manner). control_written z.leaves_out b.control b.second) (sym manner) in
         let controls = same_controls sets i control accepts.is_control good none m first types m.leaves_out refl a.control a.second
-        b.control b.second rs ps ca.control ca.second ca.behind cb.control cb.second cb.behind written accepts.accepts other in
+        b.control b.second rs ps ca.control ca.second ca.after cb.control cb.second cb.after written accepts.accepts other in
         let under : Accepts sets i control a.control a.second ps types =
         subst (λ z. Accepts sets i control a.control z ps types) (sym controls.1)
         (subst (λ c. Accepts sets i control c b.second ps types) (sym controls.0) other) in

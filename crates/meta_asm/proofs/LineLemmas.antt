@@ -8,7 +8,7 @@ use Rattle.std.proofs.lemmas.List.Elements.{All-nil, All-cons, All-head, All-tai
 use Rattle.meta_types.specs.TypeParts.{TypeParts, IsType, name_of}
 use Rattle.meta_types.specs.Name.{IsNameByte}
 use Rattle.meta_lines.specs.Words.{AreWords, pieces_of}
-use Rattle.meta_lines.specs.Control.{control_text, IsBehind}
+use Rattle.meta_lines.specs.Control.{control_text, IsAfter}
 use Rattle.meta_lines.proofs.PieceLemmas.{pieces_of-join}
 use Rattle.meta_verify.specs.Statement.{TypedValue, Application, OfParameter, OfApplication, IsValue, IsTyped, CanApply, IsStatement}
 use Rattle.meta_verify.specs.Statement.{value_text, typed_text, list_text, words_of}
@@ -167,21 +167,21 @@ shown_type true c None h = tt
 shown_type false c None h = h
 shown_type leaves_out c (Some d) h = h
 
-shown_behind : (leaves_out : Bool) (c d : Option TypeParts) → IsBehind c d → IsBehind (shown_control leaves_out c d) d
-shown_behind leaves_out c None h e = refl
-shown_behind leaves_out c (Some d) h e = h e
+shown_after : (leaves_out : Bool) (c d : Option TypeParts) → IsAfter c d → IsAfter (shown_control leaves_out c d) d
+shown_after leaves_out c None h e = refl
+shown_after leaves_out c (Some d) h e = h e
 
 pub shown_can : (leaves_out : Bool) (a : Application) → CanApply a → CanApply (shown leaves_out a)
 shown_can leaves_out a can = record {
   control = shown_type leaves_out a.control a.second can.control;
   second = can.second;
-  behind = shown_behind leaves_out a.control a.second can.behind;
+  after = shown_after leaves_out a.control a.second can.after;
   results = All-nil IsTyped;
   values = can.values;
 }
 
 -- the word for the controlling types that are shown
-pub shown_word : (leaves_out : Bool) (c d : Option TypeParts) → IsBehind c d
+pub shown_word : (leaves_out : Bool) (c d : Option TypeParts) → IsAfter c d
     → unwrap_or (control_written leaves_out c d) (codes "-") ≡ control_text (shown_control leaves_out c d) d
 shown_word true None None h = refl
 shown_word false None None h = refl
@@ -200,7 +200,7 @@ shown_states leaves_out a line can plain some is =
     let vw = list_text (map value_text a.values) in
     let words : line ≡ join_with_byte 32 (codes "line" ∷ a.name ∷ cw ∷ codes "-" ∷ vw ∷ []) = is
     ∙ ap (λ w. join_with_byte 32 (codes "line" ∷ a.name ∷ w ∷ codes "-" ∷ vw ∷ []))
-    (shown_word leaves_out a.control a.second can.behind) in
+    (shown_word leaves_out a.control a.second can.after) in
     let lack : All (Lacks 32) (codes "line" ∷ a.name ∷ cw ∷ codes "-" ∷ vw ∷ []) =
     All-cons (Lacks 32) (codes "line") (a.name ∷ cw ∷ codes "-" ∷ vw ∷ []) line_lacks
     (All-cons (Lacks 32) a.name (cw ∷ codes "-" ∷ vw ∷ []) plain.space

@@ -13,7 +13,7 @@ use Rattle.meta_verify.specs.declared.reason.Reason.{Reason}
 use Rattle.meta_verify.proofs.StatementLemmas.{one_statement, name_has_bytes}
 use Rattle.meta_verify.proofs.OneAnswer.{not_wrong}
 use Rattle.meta_gen.proofs.OneReply.{one_allowed}
-use Rattle.meta_asm.specs.Short.{Manner, short_results, short_result_text, behind, control_written, values_written, results_part}
+use Rattle.meta_asm.specs.Short.{Manner, short_results, short_result_text, then_part, control_written, values_written, results_part}
 use Rattle.meta_asm.specs.Short.{short_text}
 use Rattle.meta_asm.specs.Manners.{IsMannerIn}
 use Rattle.meta_asm.specs.Reading.{Manners, IsShort, IsShortIn}
@@ -71,7 +71,7 @@ no_text : {line : List ℕ} (s : Statement) (m : Manner) → IsStatement line s 
 no_text (OfParameter r) m states e = absurd (cc)
 no_text {line = line} (OfApplication a) m states e =
     let some = name_has_bytes line a states in
-    let rest = behind 46 (control_written m.leaves_out a.control a.second) ++ behind 32 (values_written (map value_text a.values)) in
+    let rest = then_part 46 (control_written m.leaves_out a.control a.second) ++ then_part 32 (values_written (map value_text a.values)) in
     no_results_part (map short_result_text (short_results m.opened a.results)) (a.name ++ rest)
     (omega (arith, some, length-append a.name rest)) e
 

@@ -175,10 +175,10 @@ module _ (sets : Sets) (i : Instruction) (control : Option Variable) (tables : T
       (entry.constraint_offset + (length i.results + j)) w) → j < length i.values
       → slice_get (value_constraints tables entry) j ≡ Some c.number_constraint
   value_there j w c l =
-      let behind : ℕ = entry.constraint_offset + result_count entry.flags in
-      let place : behind + j ≡ entry.constraint_offset + (length i.results + j) = (let e = results_counted in omega (arith, e)) in
-      get_take (drop behind tables.operand_constraints) (value_count entry.flags) j (let e = is.flags.values in omega (arith, l, e))
-      ∙ get_drop tables.operand_constraints behind j ∙ ap (slice_get tables.operand_constraints) place ∙ c.placed
+      let after : ℕ = entry.constraint_offset + result_count entry.flags in
+      let place : after + j ≡ entry.constraint_offset + (length i.results + j) = (let e = results_counted in omega (arith, e)) in
+      get_take (drop after tables.operand_constraints) (value_count entry.flags) j (let e = is.flags.values in omega (arith, l, e))
+      ∙ get_drop tables.operand_constraints after j ∙ ap (slice_get tables.operand_constraints) place ∙ c.placed
 
   -- a value with the controlling type: the control isn't fixed
   several : (j : ℕ) (x : NumberConstraint) → slice_get (value_constraints tables entry) j ≡ Some x → x ≡ SameNumber First

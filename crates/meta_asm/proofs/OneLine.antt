@@ -16,7 +16,7 @@ use Rattle.meta_inst.specs.Tables.{TableContents, OpcodeNumbers, Allows, at_opco
 use Rattle.meta_gen.specs.Contents.{IsOpcodeNamed}
 use Rattle.meta_gen.specs.WellFormedOpcodes.{IsWellFormedOpcodes}
 use Rattle.meta_lists.proofs.Everywhere.{at_place}
-use Rattle.meta_lines.specs.Control.{control_text, IsBehind}
+use Rattle.meta_lines.specs.Control.{control_text, IsAfter}
 use Rattle.meta_lines.proofs.ControlLemmas.{same_controls}
 use Rattle.meta_gen.specs.Reply.{AllowedReply}
 use Rattle.meta_verify.specs.Statement.{TypedValue, Application, Statement, OfParameter, OfApplication, IsValue, IsTyped, CanApply}
@@ -26,13 +26,13 @@ use Rattle.meta_verify.specs.Wrong.{Replies, IsAccepted, IsFaultless}
 use Rattle.meta_verify.proofs.StatementLemmas.{one_written_value, one_statement}
 use Rattle.meta_verify.proofs.OneAnswer.{same_found_types}
 use Rattle.meta_lists.proofs.First.{one_first}
-use Rattle.meta_asm.specs.Short.{Manner, short_results, short_result_text, joined, behind, control_written, values_written}
+use Rattle.meta_asm.specs.Short.{Manner, short_results, short_result_text, joined, then_part, control_written, values_written}
 use Rattle.meta_asm.specs.Short.{parameter_text, short_application, short_text}
 use Rattle.meta_asm.specs.PlainNames.{IsPlain}
 use Rattle.meta_asm.specs.Manners.{is_control, value_constraints, manner_of, IsMannerIn}
 use Rattle.meta_asm.specs.Reading.{Manners, HasManner, IsShort, IsShortIn}
 use Rattle.meta_asm.proofs.SplitLemmas.{Lacks, one_split}
-use Rattle.meta_asm.proofs.ShortLemmas.{behind_results, applied_text, split_form, space, comma, equals, value_lacks, type_lacks}
+use Rattle.meta_asm.proofs.ShortLemmas.{after_results, applied_text, split_form, space, comma, equals, value_lacks, type_lacks}
 use Rattle.meta_asm.proofs.ShortLemmas.{front_lacks, short_lacks, control_lacks, same_line_parts}
 use Rattle.meta_asm.proofs.Determined.{same_results, one_number_at, any_there, control_constraint_is, no_second, one_control_number}
 
@@ -106,8 +106,8 @@ result_number_at rs k r at =
 -- ---- controls
 
 -- controls that are written alike are the same, where they are written
-pub written_alike : (c d e g : Option TypeParts) → IfSome c IsType → IfSome d IsType → IsBehind c d → IfSome e IsType → IfSome g IsType
-    → IsBehind e g → control_written false c d ≡ control_written false e g → (c ≡ e) × (d ≡ g)
+pub written_alike : (c d e g : Option TypeParts) → IfSome c IsType → IfSome d IsType → IsAfter c d → IfSome e IsType → IfSome g IsType
+    → IsAfter e g → control_written false c d ≡ control_written false e g → (c ≡ e) × (d ≡ g)
 written_alike None d None g hc hd hb he hg gb e = (refl, hb refl ∙ sym (gb refl))
 written_alike None d (Some u) None hc hd hb he hg gb e = absurd (cc)
 written_alike None d (Some u) (Some w) hc hd hb he hg gb e = absurd (cc)
@@ -147,8 +147,8 @@ module _ (tables : TableContents) (op : ℕ) (entry : OpcodeNumbers) (at : at_op
 
   -- so controls that are written alike are the same
   pub same_written_control : (leaves_out : Bool) (c d e g : Option TypeParts) (rs ps : List ℕ)
-      → leaves_out ≡ (manner_of tables entry).leaves_out → IfSome c IsType → IfSome d IsType → IsBehind c d → IfSome e IsType
-      → IfSome g IsType → IsBehind e g
+      → leaves_out ≡ (manner_of tables entry).leaves_out → IfSome c IsType → IfSome d IsType → IsAfter c d → IfSome e IsType
+      → IfSome g IsType → IsAfter e g
       → control_written leaves_out c d ≡ control_written leaves_out e g
       → Allows tables op (option_map number_of c) (option_map number_of d) rs vs
       → Allows tables op (option_map number_of e) (option_map number_of g) ps vs → (c ≡ e) × (d ≡ g)
@@ -197,10 +197,10 @@ no_values r (u ∷ w ∷ ws) h k e =
     absurd (cc)
 
 apart_by : (r : TypedValue) (ts : List (List ℕ)) (name : List ℕ) (control : Option (List ℕ)) (vs : List ℕ) → IsTyped r → All (Lacks 61) ts
-    → Lacks 32 (name ++ behind 46 control) → All IsValue vs
-    → parameter_text r ≡ behind_results ts (applied_text name control (values_written (map value_text vs))) → ⊥
+    → Lacks 32 (name ++ then_part 46 control) → All IsValue vs
+    → parameter_text r ≡ after_results ts (applied_text name control (values_written (map value_text vs))) → ⊥
 apart_by r [] name control vs h lt ln lv e =
-    let both = one_split 32 (codes "param") (name ++ behind 46 control) (Some (value_text r.value ++ 32 ∷ name_of r.type))
+    let both = one_split 32 (codes "param") (name ++ then_part 46 control) (Some (value_text r.value ++ 32 ∷ name_of r.type))
     (values_written (map value_text vs)) word_lacks ln e in
     no_values r vs h lv both.1
 apart_by r (t ∷ ts) name control vs h lt ln lv e =
@@ -216,13 +216,14 @@ apart r m a h plain can e =
     apart_by r (map short_result_text (short_results m.opened a.results)) a.name
     (control_written m.leaves_out a.control a.second) a.values h
     (short_lacks 61 m.opened a.results equals (omega arith) can.results)
-    (All-append (λ b. b ≢ 32) a.name (behind 46 (control_written m.leaves_out a.control a.second)) plain.space
+    (All-append (λ b. b ≢ 32) a.name (then_part 46 (control_written m.leaves_out a.control a.second)) plain.space
     (control_lacks 32 m.leaves_out a.control a.second space (omega arith) (omega arith) can.control can.second))
     can.values (e ∙ split_form m a)
 
 pub one_parameter : (r q : TypedValue) → IsTyped r → IsTyped q → parameter_text r ≡ parameter_text q → r ≡ q
 one_parameter r q h k e =
-    let texts : value_text r.value ++ behind 32 (Some (name_of r.type)) ≡ value_text q.value ++ behind 32 (Some (name_of q.type)) = cc in
+    let texts : value_text r.value ++ then_part 32 (Some (name_of r.type))
+            ≡ value_text q.value ++ then_part 32 (Some (name_of q.type)) = cc in
     let both = one_split 32 (value_text r.value) (value_text q.value) (Some (name_of r.type)) (Some (name_of q.type))
     (value_lacks 32 r.value space h.value) (value_lacks 32 q.value space k.value) texts in
     let value = one_written_value r.value q.value h.value k.value both.0 in
@@ -281,7 +282,7 @@ module _ (tables : TableContents) (well : IsWellFormedOpcodes tables) (env : Env
       ∙ ap (λ (x : Manner). control_written x.leaves_out b.control b.second) (sym manner) in
       let controls = same_written_control tables op hm.entry at vs m.leaves_out a.control a.second b.control b.second rs ps
       (ap (λ (x : Manner). x.leaves_out) hm.is)
-      ca.control ca.second ca.behind cb.control cb.second cb.behind written allows accepts in
+      ca.control ca.second ca.after cb.control cb.second cb.after written allows accepts in
       let under : Allows tables op (option_map number_of a.control) (option_map number_of a.second) ps vs =
       subst (λ d. Allows tables op (option_map number_of a.control) (option_map number_of d) ps vs) (sym controls.1)
       (subst (λ c. Allows tables op (option_map number_of c) (option_map number_of b.second) ps vs) (sym controls.0) accepts) in

@@ -125,41 +125,41 @@ module _ (R : Replies) (M : Manners) (stated : (line : List ℕ) (s t : Statemen
         (subst (λ s. AreShort R M (with_values env (defined_by s)) ls ts e) same rest) others)
 
     -- if each line that isn't empty has a short form, no line is wrong
-    none_wrong : (env env' before behind : Environment) (lines texts : List (List ℕ)) (n : ℕ) (line : List ℕ) (reason : Reason)
+    none_wrong : (env env' before after : Environment) (lines texts : List (List ℕ)) (n : ℕ) (line : List ℕ) (reason : Reason)
         → AreShort R M env (filled lines) texts env'
-        → slice_get lines n ≡ Some line → LeadTo R env (take n lines) before → Feeds R before line (Some reason) behind → ⊥
-    none_wrong env env' before behind [] texts n line reason h at leads fed = absurd (cc)
-    none_wrong env env' before behind ([] ∷ ls) texts zero line reason h at leads fed =
-        let empty : Feeds R before [] (Some reason) behind =
-        subst (λ l. Feeds R before l (Some reason) behind) (sym (same_Some [] line at)) fed in
+        → slice_get lines n ≡ Some line → LeadTo R env (take n lines) before → Feeds R before line (Some reason) after → ⊥
+    none_wrong env env' before after [] texts n line reason h at leads fed = absurd (cc)
+    none_wrong env env' before after ([] ∷ ls) texts zero line reason h at leads fed =
+        let empty : Feeds R before [] (Some reason) after =
+        subst (λ l. Feeds R before l (Some reason) after) (sym (same_Some [] line at)) fed in
         let no : Some reason ≡ None = empty.0 in
         absurd (cc)
-    none_wrong env env' before behind ([] ∷ ls) texts (suc n) line reason h at (answer, between, (none, same), rest) fed =
-        none_wrong env env' before behind ls texts n line reason h at
+    none_wrong env env' before after ([] ∷ ls) texts (suc n) line reason h at (answer, between, (none, same), rest) fed =
+        none_wrong env env' before after ls texts n line reason h at
         (subst (λ (e : Environment). LeadTo R e (take n ls) before) same rest) fed
-    none_wrong env env' before behind ((c ∷ cs) ∷ ls) [] n line reason h at leads fed = absurd h
-    none_wrong env env' before behind ((c ∷ cs) ∷ ls) (t ∷ ts) zero line reason (short, rest) at leads fed =
-        let here : Feeds R before (c ∷ cs) (Some reason) behind =
-        subst (λ l. Feeds R before l (Some reason) behind) (sym (same_Some (c ∷ cs) line at)) fed in
-        let first : Feeds R env (c ∷ cs) (Some reason) behind =
-        subst (λ (e : Environment). Feeds R e (c ∷ cs) (Some reason) behind) leads here in
-        let no : None ≡ Some reason = (one_fed env (with_values env (defined_by short.statement)) behind (c ∷ cs) None (Some reason)
+    none_wrong env env' before after ((c ∷ cs) ∷ ls) [] n line reason h at leads fed = absurd h
+    none_wrong env env' before after ((c ∷ cs) ∷ ls) (t ∷ ts) zero line reason (short, rest) at leads fed =
+        let here : Feeds R before (c ∷ cs) (Some reason) after =
+        subst (λ l. Feeds R before l (Some reason) after) (sym (same_Some (c ∷ cs) line at)) fed in
+        let first : Feeds R env (c ∷ cs) (Some reason) after =
+        subst (λ (e : Environment). Feeds R e (c ∷ cs) (Some reason) after) leads here in
+        let no : None ≡ Some reason = (one_fed env (with_values env (defined_by short.statement)) after (c ∷ cs) None (Some reason)
         (short.statement, short.right, refl) first).0 in
         absurd (cc)
-    none_wrong env env' before behind ((c ∷ cs) ∷ ls) (t ∷ ts) (suc n) line reason (short, rest) at (answer, between, first, others) fed =
+    none_wrong env env' before after ((c ∷ cs) ∷ ls) (t ∷ ts) (suc n) line reason (short, rest) at (answer, between, first, others) fed =
         let same = (one_fed env between (with_values env (defined_by short.statement)) (c ∷ cs) answer None first (
           short.statement,
           short.right,
           refl,
         )).1 in
-        none_wrong (with_values env (defined_by short.statement)) env' before behind ls ts n line reason rest at
+        none_wrong (with_values env (defined_by short.statement)) env' before after ls ts n line reason rest at
         (subst (λ (e : Environment). LeadTo R e (take n ls) before) same others) fed
 
     short_not_wrong : (input : List ℕ) (texts : List (List ℕ)) (env : Environment) (n : ℕ) (reason : Reason)
         → AreShort R M nothing_defined (filled (lines_of input)) texts env → IsFirstWrong R (lines_of input) n reason → ⊥
     short_not_wrong input texts env n reason h first =
         let wrong = first.wrong in
-        none_wrong nothing_defined env wrong.before wrong.behind (lines_of input) texts n wrong.line reason h wrong.at wrong.leads wrong.fed
+        none_wrong nothing_defined env wrong.before wrong.after (lines_of input) texts n wrong.line reason h wrong.at wrong.leads wrong.fed
 
     pub one_shortened : (input : List ℕ) (a b : Bool) (s t : List ℕ) → IsShortened R M input a s → IsShortened R M input b t
         → (a ≡ b) × (s ≡ t)

@@ -5,7 +5,7 @@ use Rattle.std.specs.Option.{option_map, option_map_or}
 use Rattle.std.proofs.lemmas.List.Elements.{All-append}
 use Rattle.meta_lines.specs.Words.{pieces_of}
 use Rattle.meta_verify.specs.Statement.{Application, CanApply, value_text}
-use Rattle.meta_asm.specs.Short.{Manner, joined, behind, control_written, values_written, results_part}
+use Rattle.meta_asm.specs.Short.{Manner, joined, then_part, control_written, values_written, results_part}
 use Rattle.meta_asm.specs.PlainNames.{IsPlain}
 use Rattle.meta_asm.proofs.SplitLemmas.{Lacks, part_pieces, split_pieces, one_part}
 use Rattle.meta_asm.proofs.ShortLemmas.{results_form, equals, space, front_lacks, control_lacks, values_lack}
@@ -13,11 +13,11 @@ use Rattle.meta_asm.proofs.ShortLemmas.{results_form, equals, space, front_lacks
 -- what was cut from a text of these parts
 module _ {X : Type 0} (now : X → List ℕ) (byte : ℕ) (text first : List ℕ) (rest : Option X) (cut : pieces_of byte text
     ≡ first ∷ option_map_or (λ r. pieces_of byte (now r)) rest []) where
-  pieces_behind : (o : Option X) → option_map_or (λ r. pieces_of byte (now r)) o [] ≡ part_pieces byte (option_map now o)
-  pieces_behind None = refl
-  pieces_behind (Some r) = refl
+  pieces_after : (o : Option X) → option_map_or (λ r. pieces_of byte (now r)) o [] ≡ part_pieces byte (option_map now o)
+  pieces_after None = refl
+  pieces_after (Some r) = refl
 
-  module _ (x : List ℕ) (p : Option (List ℕ)) (lacks : Lacks byte x) (is : text ≡ x ++ behind byte p) where
+  module _ (x : List ℕ) (p : Option (List ℕ)) (lacks : Lacks byte x) (is : text ≡ x ++ then_part byte p) where
     same_pieces : first ∷ option_map_or (λ r. pieces_of byte (now r)) rest [] ≡ x ∷ part_pieces byte p
     same_pieces = sym cut ∙ ap (pieces_of byte) is ∙ split_pieces byte x p lacks
 
@@ -28,7 +28,7 @@ module _ {X : Type 0} (now : X → List ℕ) (byte : ℕ) (text first : List ℕ
     rest_is =
         let e = same_pieces in
         let others : option_map_or (λ r. pieces_of byte (now r)) rest [] ≡ part_pieces byte p = cc in
-        one_part byte (option_map now rest) p (sym (pieces_behind rest) ∙ others)
+        one_part byte (option_map now rest) p (sym (pieces_after rest) ∙ others)
 
 -- ---- the two sides
 
@@ -55,39 +55,39 @@ module _ {X : Type 0} (now : X → List ℕ) (text first : List ℕ) (rest : Opt
         let there : option_map now rest ≡ Some (now r) = ap (option_map now) some in
         absurd (cc)
     has_results (t ∷ ts) other h g e =
-        let is : text ≡ joined (t ∷ ts) ++ 32 ∷ [] ++ behind 61 (Some (32 ∷ other)) = e ∙ results_form (t ∷ ts) other in
+        let is : text ≡ joined (t ∷ ts) ++ 32 ∷ [] ++ then_part 61 (Some (32 ∷ other)) = e ∙ results_form (t ∷ ts) other in
         let front : first ≡ joined (t ∷ ts) ++ 32 ∷ [] =
         first_is now 61 text first rest cut (joined (t ∷ ts) ++ 32 ∷ []) (Some (32 ∷ other)) (front_lacks (t ∷ ts) h) is in
         let back : option_map now rest ≡ Some (32 ∷ other) =
         rest_is now 61 text first rest cut (joined (t ∷ ts) ++ 32 ∷ []) (Some (32 ∷ other)) (front_lacks (t ∷ ts) h) is in
         let there : option_map now rest ≡ Some (now r) = ap (option_map now) some in
-        let behind_it : now r ≡ 32 ∷ other = cc in
-        (ap (λ l. Some l) (before (joined (t ∷ ts)) front), after other behind_it)
+        let after_it : now r ≡ 32 ∷ other = cc in
+        (ap (λ l. Some l) (before (joined (t ∷ ts)) front), after other after_it)
 
 -- ---- the parts
 
 -- what stands after the results
 abbrev pub applied_part : Manner → Application → List ℕ
 applied_part m a =
-    a.name ++ (behind 46 (control_written m.leaves_out a.control a.second) ++ behind 32 (values_written (map value_text a.values)))
+    a.name ++ (then_part 46 (control_written m.leaves_out a.control a.second) ++ then_part 32 (values_written (map value_text a.values)))
 
 pub applied_lacks : (m : Manner) (a : Application) → IsPlain a.name → CanApply a → Lacks 61 (applied_part m a)
 applied_lacks m a plain can =
-    All-append (λ b. b ≢ 61) a.name (behind 46 (control_written m.leaves_out a.control a.second)
-    ++ behind 32 (values_written (map value_text a.values))) plain.equals
-    (All-append (λ b. b ≢ 61) (behind 46 (control_written m.leaves_out a.control a.second))
-    (behind 32 (values_written (map value_text a.values)))
+    All-append (λ b. b ≢ 61) a.name (then_part 46 (control_written m.leaves_out a.control a.second)
+    ++ then_part 32 (values_written (map value_text a.values))) plain.equals
+    (All-append (λ b. b ≢ 61) (then_part 46 (control_written m.leaves_out a.control a.second))
+    (then_part 32 (values_written (map value_text a.values)))
     (control_lacks 61 m.leaves_out a.control a.second equals (omega arith) (omega arith) can.control can.second)
     (values_lack 61 a.values equals (omega arith) (omega arith) can.values))
 
 -- the name and the control stand before the values
 pub head_values : (m : Manner) (a : Application) → applied_part m a
-    ≡ (a.name ++ behind 46 (control_written m.leaves_out a.control a.second)) ++ behind 32 (values_written (map value_text a.values))
-head_values m a = sym (append_assoc a.name (behind 46 (control_written m.leaves_out a.control a.second))
-    (behind 32 (values_written (map value_text a.values))))
+    ≡ (a.name ++ then_part 46 (control_written m.leaves_out a.control a.second)) ++ then_part 32 (values_written (map value_text a.values))
+head_values m a = sym (append_assoc a.name (then_part 46 (control_written m.leaves_out a.control a.second))
+    (then_part 32 (values_written (map value_text a.values))))
 
 pub head_lacks : (m : Manner) (a : Application) → IsPlain a.name → CanApply a
-    → Lacks 32 (a.name ++ behind 46 (control_written m.leaves_out a.control a.second))
+    → Lacks 32 (a.name ++ then_part 46 (control_written m.leaves_out a.control a.second))
 head_lacks m a plain can =
-    All-append (λ b. b ≢ 32) a.name (behind 46 (control_written m.leaves_out a.control a.second)) plain.space
+    All-append (λ b. b ≢ 32) a.name (then_part 46 (control_written m.leaves_out a.control a.second)) plain.space
     (control_lacks 32 m.leaves_out a.control a.second space (omega arith) (omega arith) can.control can.second)

@@ -30,7 +30,7 @@ use Rattle.meta_gen.specs.declared.constraint.Constraint.TheVariants.{Same}
 use Rattle.meta_gen.specs.Contents.{IsOpcodeNamed}
 use Rattle.meta_gen.specs.WellFormedOpcodes.{IsWellFormedOpcodes}
 use Rattle.meta_lists.proofs.Everywhere.{at_place}
-use Rattle.meta_lines.specs.Control.{control_text, IsBehind}
+use Rattle.meta_lines.specs.Control.{control_text, IsAfter}
 use Rattle.meta_gen.specs.Reply.{AllowedReply}
 use Rattle.meta_verify.specs.Statement.{TypedValue, Application, Statement, OfParameter, OfApplication, IsStatement, value_text, typed_text}
 use Rattle.meta_verify.specs.Statement.{list_text}
@@ -211,18 +211,18 @@ module _ (tables : TableContents) (env : Environment) (op : ℕ) (entry : Opcode
 
 -- the word for the controlling types, as it is written or as it is known
 pub control_word_is : (leaves_out : Bool) (c d : Option TypeParts) (written : Option (List ℕ)) (known : Option ℕ) (word : List ℕ)
-    → IfSome c IsType → IsBehind c d → written ≡ control_written leaves_out c d → known ≡ option_map number_of c
+    → IfSome c IsType → IsAfter c d → written ≡ control_written leaves_out c d → known ≡ option_map number_of c
     → ((text : List ℕ) → written ≡ Some text → word ≡ text)
     → (written ≡ None → IfSome known IsTypeNumber → word ≡ control_text (option_map type_with known) None) → word ≡ control_text c d
-control_word_is leaves_out None None written known word typed behind is e as_written as_known =
+control_word_is leaves_out None None written known word typed after is e as_written as_known =
     as_known is (subst (λ k. IfSome k IsTypeNumber) (sym e) tt) ∙ ap (λ k. control_text (option_map type_with k) None) e
-control_word_is leaves_out None (Some d) written known word typed behind is e as_written as_known = let none : Some d ≡ None = behind refl
+control_word_is leaves_out None (Some d) written known word typed after is e as_written as_known = let none : Some d ≡ None = after refl
     in absurd (cc)
-control_word_is true (Some c) None written known word typed behind is e as_written as_known =
+control_word_is true (Some c) None written known word typed after is e as_written as_known =
     as_known is (subst (λ k. IfSome k IsTypeNumber) (sym e) (number_is_one c typed))
     ∙ ap (λ k. control_text (option_map type_with k) None) e ∙ ap (λ t. control_text (Some t) None) (type_back c typed)
-control_word_is false (Some c) None written known word typed behind is e as_written as_known = as_written (control_text (Some c) None) is
-control_word_is leaves_out (Some c) (Some d) written known word typed behind is e as_written as_known =
+control_word_is false (Some c) None written known word typed after is e as_written as_known = as_written (control_text (Some c) None) is
+control_word_is leaves_out (Some c) (Some d) written known word typed after is e as_written as_known =
     as_written (control_text (Some c) (Some d)) is
 
 -- the line of the words of what is stated

@@ -15,7 +15,7 @@ use Rattle.meta_verify.specs.Statement.{TypedValue, IsTyped, value_text, typed_t
 use Rattle.meta_asm.specs.Short.{shortened, short_results, short_result_text, joined, values_written}
 use Rattle.meta_asm.proofs.SplitLemmas.{Lacks, joined_pieces}
 use Rattle.meta_asm.proofs.ShortLemmas.{colon, comma, value_lacks, short_lacks}
-use Rattle.meta_asm.specs.Parts.{TellTypes, comma_behind}
+use Rattle.meta_asm.specs.Parts.{TellTypes, comma_after}
 use Rattle.meta_asm.proofs.PartLemmas.{rest_is}
 
 -- ---- one result
@@ -76,7 +76,7 @@ join_is t (u ∷ us) = ap (λ r. t ++ 44 ∷ r) (join_is u us)
 
 -- a text more, which has bytes
 pub one_more_text : (word : List ℕ) (c : ℕ) (cs : List ℕ) (ts : List (List ℕ))
-    → word ++ comma_behind word ++ c ∷ cs ++ still (word ++ comma_behind word ++ c ∷ cs) ts ≡ word ++ still word ((c ∷ cs) ∷ ts)
+    → word ++ comma_after word ++ c ∷ cs ++ still (word ++ comma_after word ++ c ∷ cs) ts ≡ word ++ still word ((c ∷ cs) ∷ ts)
 one_more_text [] c cs ts = sym (join_is (c ∷ cs) ts)
 one_more_text (w ∷ ws) c cs ts =
     append_assoc (w ∷ ws ++ 44 ∷ []) (c ∷ cs) (flat_map (λ (t : List ℕ). 44 ∷ t) ts)
@@ -140,7 +140,7 @@ all_left (o ∷ os) (r ∷ rs) numbers list typed tell e =
 module _ (rs : List TypedValue) (number : ℕ) (others : List ℕ) (piece : List ℕ) (pieces : List (List ℕ))
     (word with_comma longer text : List ℕ) (has_type : Bool)
     (space : (rest : List ℕ) → piece ≡ 32 ∷ rest → text ≡ rest) (no_space : (c : ℕ) (rest : List ℕ) → piece ≡ c ∷ rest → c ≢ 32
-    → text ≡ piece) (comma_is : with_comma ≡ word ++ comma_behind word)
+    → text ≡ piece) (comma_is : with_comma ≡ word ++ comma_after word)
     (pushed : (opened : Bool) (r : TypedValue) → IsTyped r → (opened ≡ false → number ≡ number_of r.type)
     → text ≡ short_result_text (shortened opened r) → (has_type ≡ true) × (longer ≡ with_comma ++ typed_text r)) where
   text_is : (o : Bool) (r : TypedValue) → IsSpaced piece (short_result_text (shortened o r)) → text ≡ short_result_text (shortened o r)
@@ -154,7 +154,7 @@ module _ (rs : List TypedValue) (number : ℕ) (others : List ℕ) (piece : List
       → (has_type ≡ true) × AreLeft rs others pieces longer
   added o os r qs typed tells tell spaced is =
       let put = pushed o r (All-head IsTyped r qs typed) (λ e. same_Some number (number_of r.type) (tells e)) (text_is o r spaced.0) in
-      let all : longer ≡ (word ++ comma_behind word) ++ typed_text r = put.1 ∙ ap (λ w. w ++ typed_text r) comma_is in (
+      let all : longer ≡ (word ++ comma_after word) ++ typed_text r = put.1 ∙ ap (λ w. w ++ typed_text r) comma_is in (
         put.0,
         record {
           opened = os;

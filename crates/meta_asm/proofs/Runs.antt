@@ -1,7 +1,7 @@
 -- What a run writes.
 use Rattle.std.proofs.Common.{◌≡◌, ◌⊎◌, inl, inr, ℕ, Bool, true, false, List, [], ◌∷◌, ◌++◌, Option, Some, codes, refl, sym, ◌∙◌, subst}
 use Rattle.meta_types.specs.declared.fault.DefinitionError.{DefinitionError}
-use Rattle.meta_build.specs.AllDeclared.{Declared, ShowsFirst, AreValid}
+use Rattle.meta_build.specs.AllDeclared.{Declared, HasFirstFault, AreValid}
 use Rattle.meta_lines.specs.Lines.{lines_of}
 use Rattle.meta_run.specs.Ending.{written_as}
 use Rattle.meta_run.specs.declared.ending.Ending.{Ending}
@@ -26,7 +26,7 @@ one_form Explicit Explicit e f = refl
 module _ {S K : Type 0} {left : S → Option (List ℕ)} {reads : S → ℕ} {taken : K → Option (List ℕ)} {writes : K
     → ℕ} {d : Declared} {s s' : S} {k k' : K} {words : List (List ℕ)} {ending : Ending}
     (run : IsRun left reads taken writes d s s' k k' (λ (form : Form). words ≡ words_for form) (λ _. true) written_in ending)
-    (no_fault : (e : DefinitionError) → AreValid d → ShowsFirst d e → ⊥) where
+    (no_fault : (e : DefinitionError) → AreValid d → HasFirstFault d e → ⊥) where
   -- the text that was written, where nothing fails
   said : (form : Form) → words ≡ words_for form → AreValid d → (input before : List ℕ)
       → NothingFails left reads taken writes d s s' k k' input before ending

@@ -9,7 +9,7 @@ use Rattle.meta_types.proofs.Names.{one_name}
 use Rattle.meta_lines.proofs.NameLemmas.{IsDigit, decimal_lacks, name_lacks}
 use Rattle.meta_verify.specs.Statement.{TypedValue, Application, IsValue, IsTyped, CanApply, value_text}
 use Rattle.meta_verify.proofs.StatementLemmas.{one_written_value}
-use Rattle.meta_asm.specs.Short.{Manner, ShortResult, shortened, short_results, type_part, short_result_text, joined, behind}
+use Rattle.meta_asm.specs.Short.{Manner, ShortResult, shortened, short_results, type_part, short_result_text, joined, then_part}
 use Rattle.meta_asm.specs.Short.{control_written, values_written, results_part, short_application}
 use Rattle.meta_asm.specs.PlainNames.{IsPlain}
 use Rattle.meta_asm.proofs.SplitLemmas.{Lacks, one_split, lacks_joined, one_joined}
@@ -18,26 +18,26 @@ use Rattle.meta_asm.proofs.SplitLemmas.{Lacks, one_split, lacks_joined, one_join
 
 -- the name and what comes after it: `.i32` or nothing, and ` v0, v1` or nothing
 abbrev pub applied_text : List ℕ → Option (List ℕ) → Option (List ℕ) → List ℕ
-applied_text name control values = (name ++ behind 46 control) ++ behind 32 values
+applied_text name control values = (name ++ then_part 46 control) ++ then_part 32 values
 
 -- the same after the results: `v1, v2 = `, or nothing
-abbrev pub behind_results : List (List ℕ) → List ℕ → List ℕ
-behind_results [] rest = rest
-behind_results (t ∷ ts) rest = joined (t ∷ ts) ++ 32 ∷ [] ++ behind 61 (Some (32 ∷ rest))
+abbrev pub after_results : List (List ℕ) → List ℕ → List ℕ
+after_results [] rest = rest
+after_results (t ∷ ts) rest = joined (t ∷ ts) ++ 32 ∷ [] ++ then_part 61 (Some (32 ∷ rest))
 
-pub results_form : (ts : List (List ℕ)) (rest : List ℕ) → results_part ts ++ rest ≡ behind_results ts rest
+pub results_form : (ts : List (List ℕ)) (rest : List ℕ) → results_part ts ++ rest ≡ after_results ts rest
 results_form [] rest = refl
 results_form (t ∷ ts) rest = append_assoc (joined (t ∷ ts)) (codes " = ") rest
     ∙ sym (append_assoc (joined (t ∷ ts)) (32 ∷ []) (61 ∷ 32 ∷ rest))
 
 pub split_form : (m : Manner) (a : Application)
-    → short_application m a ≡ behind_results (map short_result_text (short_results m.opened a.results))
+    → short_application m a ≡ after_results (map short_result_text (short_results m.opened a.results))
     (applied_text a.name (control_written m.leaves_out a.control a.second) (values_written (map value_text a.values)))
 split_form m a =
     results_form (map short_result_text (short_results m.opened a.results)) _
-    ∙ ap (behind_results (map short_result_text (short_results m.opened a.results)))
-    (sym (append_assoc a.name (behind 46 (control_written m.leaves_out a.control a.second))
-    (behind 32 (values_written (map value_text a.values)))))
+    ∙ ap (after_results (map short_result_text (short_results m.opened a.results)))
+    (sym (append_assoc a.name (then_part 46 (control_written m.leaves_out a.control a.second))
+    (then_part 32 (values_written (map value_text a.values)))))
 
 -- ---- bytes that don't stand in the parts
 
@@ -111,9 +111,9 @@ pub result_lacks : (byte : ℕ) (r : ShortResult) → IsMark byte → 58 ≢ byt
 result_lacks byte r mark other h = All-append (λ b. b ≢ byte) (value_text r.value) (type_part r.type)
     (value_lacks byte r.value mark h.value) (part_lacks byte r.type mark other h.type)
 
-type_behind : (t : Option TypeParts) → type_part t ≡ behind 58 (option_map name_of t)
-type_behind None = refl
-type_behind (Some t) = refl
+type_after : (t : Option TypeParts) → type_part t ≡ then_part 58 (option_map name_of t)
+type_after None = refl
+type_after (Some t) = refl
 
 same_type : (t u : Option TypeParts) → IfSome t IsType → IfSome u IsType → option_map name_of t ≡ option_map name_of u → t ≡ u
 same_type None None h k e = refl
@@ -125,7 +125,7 @@ pub one_result : (r s : ShortResult) → CanBeShort r → CanBeShort s → short
 one_result r s h k e =
     let both = one_split 58 (value_text r.value) (value_text s.value) (option_map name_of r.type) (option_map name_of s.type)
     (value_lacks 58 r.value colon h.value) (value_lacks 58 s.value colon k.value)
-    (ap (λ p. value_text r.value ++ p) (sym (type_behind r.type)) ∙ e ∙ ap (λ p. value_text s.value ++ p) (type_behind s.type)) in
+    (ap (λ p. value_text r.value ++ p) (sym (type_after r.type)) ∙ e ∙ ap (λ p. value_text s.value ++ p) (type_after s.type)) in
     let value = one_written_value r.value s.value h.value k.value both.0 in
     let type = same_type r.type s.type h.type k.type both.1 in
     λ i. record { value = value i; type = type i }
@@ -145,7 +145,7 @@ same_of_texts P text one (x ∷ xs) (y ∷ ys) h k e =
 -- ---- the parts of a line
 
 pub control_lacks : (byte : ℕ) (leaves_out : Bool) (c d : Option TypeParts) → IsMark byte → 47 ≢ byte → 46 ≢ byte → IfSome c IsType
-    → IfSome d IsType → Lacks byte (behind 46 (control_written leaves_out c d))
+    → IfSome d IsType → Lacks byte (then_part 46 (control_written leaves_out c d))
 control_lacks byte leaves_out None d mark slash point h k = All-nil (λ b. b ≢ byte)
 control_lacks byte true (Some c) None mark slash point h k = All-nil (λ b. b ≢ byte)
 control_lacks byte false (Some c) None mark slash point h k = All-cons (λ b. b ≢ byte) 46 (name_of c) point (type_lacks byte c mark h)
@@ -155,18 +155,18 @@ control_lacks byte leaves_out (Some c) (Some d) mark slash point h k =
     (All-cons (λ b. b ≢ byte) 47 (name_of d) slash (type_lacks byte d mark k)))
 
 pub values_lack : (byte : ℕ) (vs : List ℕ) → IsMark byte → 44 ≢ byte → 32 ≢ byte → All IsValue vs
-    → Lacks byte (behind 32 (values_written (map value_text vs)))
+    → Lacks byte (then_part 32 (values_written (map value_text vs)))
 values_lack byte [] mark no_comma no_space h = All-nil (λ b. b ≢ byte)
 values_lack byte (v ∷ vs) mark no_comma no_space h =
     All-cons (λ b. b ≢ byte) 32 _ no_space (lacks_joined byte (map value_text (v ∷ vs)) no_comma no_space
     (All-map (Lacks byte) value_text (v ∷ vs) (All-weaker IsValue (λ u. Lacks byte (value_text u)) (λ u is. value_lacks byte u mark is)
     (v ∷ vs) h)))
 
-one_applied : (n m : List ℕ) (c d p q : Option (List ℕ)) → IsPlain n → IsPlain m → Lacks 32 (behind 46 c) → Lacks 32 (behind 46 d)
+one_applied : (n m : List ℕ) (c d p q : Option (List ℕ)) → IsPlain n → IsPlain m → Lacks 32 (then_part 46 c) → Lacks 32 (then_part 46 d)
     → applied_text n c p ≡ applied_text m d q → (n ≡ m) × (c ≡ d) × (p ≡ q)
 one_applied n m c d p q hn hm hc hd e =
-    let heads = one_split 32 (n ++ behind 46 c) (m ++ behind 46 d) p q (All-append (λ b. b ≢ 32) n (behind 46 c) hn.space hc)
-    (All-append (λ b. b ≢ 32) m (behind 46 d) hm.space hd) e in
+    let heads = one_split 32 (n ++ then_part 46 c) (m ++ then_part 46 d) p q (All-append (λ b. b ≢ 32) n (then_part 46 c) hn.space hc)
+    (All-append (λ b. b ≢ 32) m (then_part 46 d) hm.space hd) e in
     let names = one_split 46 n m c d hn.point hm.point heads.0 in
     (names.0, names.1, heads.1)
 
@@ -184,7 +184,7 @@ front_lacks ts h = All-append (λ b. b ≢ 61) (joined ts) (32 ∷ []) (lacks_jo
     (All-cons (λ b. b ≢ 61) 32 [] (omega arith) (All-nil (λ b. b ≢ 61)))
 
 one_results : (ts us : List (List ℕ)) (rest other : List ℕ) → Lacks 61 rest → Lacks 61 other → All (Lacks 61) ts → All (Lacks 61) us
-    → All (Lacks 44) ts → All (Lacks 44) us → behind_results ts rest ≡ behind_results us other → (ts ≡ us) × (rest ≡ other)
+    → All (Lacks 44) ts → All (Lacks 44) us → after_results ts rest ≡ after_results us other → (ts ≡ us) × (rest ≡ other)
 one_results [] [] rest other hr ho ht hu ct cu e = (refl, e)
 one_results [] (u ∷ us) rest other hr ho ht hu ct cu e =
     let both = one_split 61 rest (joined (u ∷ us) ++ 32 ∷ []) None (Some (32 ∷ other)) hr (front_lacks (u ∷ us) hu) (append-nil rest ∙ e) in
@@ -268,8 +268,8 @@ same_line_parts m n a b pa pb ha hb e =
     applied_lacks : (m : Manner) (a : Application) → IsPlain a.name → CanApply a
         → Lacks 61 (applied_text a.name (control_written m.leaves_out a.control a.second) (values_written (map value_text a.values)))
     applied_lacks m a pa ha =
-        All-append (λ b. b ≢ 61) (a.name ++ behind 46 (control_written m.leaves_out a.control a.second))
-        (behind 32 (values_written (map value_text a.values)))
-        (All-append (λ b. b ≢ 61) a.name (behind 46 (control_written m.leaves_out a.control a.second)) pa.equals
+        All-append (λ b. b ≢ 61) (a.name ++ then_part 46 (control_written m.leaves_out a.control a.second))
+        (then_part 32 (values_written (map value_text a.values)))
+        (All-append (λ b. b ≢ 61) a.name (then_part 46 (control_written m.leaves_out a.control a.second)) pa.equals
         (control_lacks 61 m.leaves_out a.control a.second equals (omega arith) (omega arith) ha.control ha.second))
         (values_lack 61 a.values equals (omega arith) (omega arith) ha.values)

@@ -6,7 +6,7 @@ use Rattle.std.proofs.lemmas.List.Splits.{join_with_byte-slice_split}
 use Rattle.std.proofs.lemmas.List.Elements.{All-nil, All-cons, All-head, All-tail, All-append, All-map, All-weaker}
 use Rattle.meta_lines.specs.Words.{pieces_of}
 use Rattle.meta_lines.proofs.PieceLemmas.{slice_split_cons, whole_piece, first_piece, pieces_of-join}
-use Rattle.meta_asm.specs.Short.{behind, joined}
+use Rattle.meta_asm.specs.Short.{then_part, joined}
 
 -- the byte doesn't stand in the text
 abbrev pub Lacks : ℕ → List ℕ → Type 0
@@ -19,7 +19,7 @@ part_pieces byte (Some part) = pieces_of byte part
 
 -- the pieces of a text without the byte, and a part after the byte
 pub split_pieces : (byte : ℕ) (text : List ℕ) (part : Option (List ℕ)) → Lacks byte text
-    → pieces_of byte (text ++ behind byte part) ≡ text ∷ part_pieces byte part
+    → pieces_of byte (text ++ then_part byte part) ≡ text ∷ part_pieces byte part
 split_pieces byte text None h = ap (pieces_of byte) (append-nil text) ∙ whole_piece byte text h
 split_pieces byte text (Some part) h = first_piece byte text part h
 
@@ -39,7 +39,7 @@ one_part byte (Some x) (Some y) e = ap (λ t. Some t) (sym (join_with_byte-slice
 
 -- equal texts are split at the same place
 pub one_split : (byte : ℕ) (x y : List ℕ) (p q : Option (List ℕ)) → Lacks byte x → Lacks byte y
-    → x ++ behind byte p ≡ y ++ behind byte q → (x ≡ y) × (p ≡ q)
+    → x ++ then_part byte p ≡ y ++ then_part byte q → (x ≡ y) × (p ≡ q)
 one_split byte x y p q hx hy e =
     let pieces : x ∷ part_pieces byte p ≡ y ∷ part_pieces byte q = sym (split_pieces byte x p hx)
     ∙ ap (pieces_of byte) e ∙ split_pieces byte y q hy in

@@ -25,23 +25,23 @@ kept (b ∷ bs) h =
     rw none (ap (λ cs. b ∷ cs) (kept bs (All-tail (λ b. b ≢ 32) b bs h)))
 
 -- nor do the texts after the first have spaces, without the space before each
-behind_kept : (t : List ℕ) (ts : List (List ℕ)) → All (Lacks 32) (t ∷ ts)
+after_kept : (t : List ℕ) (ts : List (List ℕ)) → All (Lacks 32) (t ∷ ts)
     → no_spaces (join_with_byte 44 (t ∷ map (λ (u : List ℕ). 32 ∷ u) ts)) ≡ join_with_byte 44 (t ∷ ts)
-behind_kept t [] h = kept t (All-head (Lacks 32) t [] h)
-behind_kept t (u ∷ []) h =
+after_kept t [] h = kept t (All-head (Lacks 32) t [] h)
+after_kept t (u ∷ []) h =
     filter-append (λ b. not (b == 32)) t (44 ∷ 32 ∷ u)
-    ∙ ap₂ (λ (x y : List ℕ). x ++ 44 ∷ y) (kept t (All-head (Lacks 32) t (u ∷ []) h)) (behind_kept u [] (All-tail (Lacks 32) t (u ∷ []) h))
-behind_kept t (u ∷ w ∷ ws) h =
+    ∙ ap₂ (λ (x y : List ℕ). x ++ 44 ∷ y) (kept t (All-head (Lacks 32) t (u ∷ []) h)) (after_kept u [] (All-tail (Lacks 32) t (u ∷ []) h))
+after_kept t (u ∷ w ∷ ws) h =
     filter-append (λ b. not (b == 32)) t (44 ∷ 32 ∷ (u ++ 44 ∷ join_with_byte 44 (map (λ (u : List ℕ). 32 ∷ u) (w ∷ ws))))
     ∙ ap₂ (λ (x y : List ℕ). x ++ 44 ∷ y) (kept t (All-head (Lacks 32) t (u ∷ w ∷ ws) h))
-    (behind_kept u (w ∷ ws) (All-tail (Lacks 32) t (u ∷ w ∷ ws) h))
+    (after_kept u (w ∷ ws) (All-tail (Lacks 32) t (u ∷ w ∷ ws) h))
 
 -- a list without its spaces
 pub list_kept : (ts : List (List ℕ)) (list : List ℕ) → All (Lacks 32) ts → Some list ≡ values_written ts → no_spaces list ≡ list_text ts
 list_kept [] list h e = absurd (cc)
 list_kept (t ∷ ts) list h e =
     let is : list ≡ joined (t ∷ ts) = cc in
-    ap no_spaces is ∙ behind_kept t ts h
+    ap no_spaces is ∙ after_kept t ts h
 
 -- the name of the type that has the number
 pub value_name : (t : ValueType) (n : ℕ) → number_of (type_parts_of t) ≡ n → name_of (type_parts_of t) ≡ name_of (type_with n)

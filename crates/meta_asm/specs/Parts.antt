@@ -22,6 +22,6 @@ pub record TellTypes (opened : List Bool) (rs : List TypedValue) (numbers : List
       → slice_get rs k ≡ Some r → get_or opened k false ≡ false → slice_get numbers k ≡ Some (number_of r.type)
 
 -- the comma that stands after a word before the next
-abbrev pub comma_behind : List ℕ → List ℕ
-comma_behind [] = []
-comma_behind (c ∷ cs) = 44 ∷ []
+abbrev pub comma_after : List ℕ → List ℕ
+comma_after [] = []
+comma_after (c ∷ cs) = 44 ∷ []

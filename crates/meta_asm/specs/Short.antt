@@ -42,9 +42,9 @@ joined [] = []
 joined (t ∷ ts) = join_with_byte 44 (t ∷ map (λ (u : List ℕ). 32 ∷ u) ts)
 
 -- a part after a byte, or nothing
-abbrev pub behind : ℕ → Option (List ℕ) → List ℕ
-behind byte None = []
-behind byte (Some part) = byte ∷ part
+abbrev pub then_part : ℕ → Option (List ℕ) → List ℕ
+then_part byte None = []
+then_part byte (Some part) = byte ∷ part
 
 -- what comes after the point: the controlling types, if there are some and they aren't left out
 abbrev pub control_written : Bool → Option TypeParts → Option TypeParts → Option (List ℕ)
@@ -66,7 +66,8 @@ results_part (t ∷ ts) = joined (t ∷ ts) ++ codes " = "
 abbrev pub short_application : Manner → Application → List ℕ
 short_application m a =
     results_part (map short_result_text (short_results m.opened a.results))
-    ++ (a.name ++ (behind 46 (control_written m.leaves_out a.control a.second) ++ behind 32 (values_written (map value_text a.values))))
+    ++ (a.name ++ (then_part 46 (control_written m.leaves_out a.control a.second)
+    ++ then_part 32 (values_written (map value_text a.values))))
 
 -- the line of a parameter: no type is left out
 abbrev pub parameter_text : TypedValue → List ℕ

@@ -17,7 +17,7 @@ pub(crate) struct ShortParts<'a> {
 }
 
 /// The text without the one space at its end, if it has one.
-fn without_space_behind(text: &[u8]) -> &[u8]
+fn without_space_after(text: &[u8]) -> &[u8]
     ensures { (front : List ℕ) → text.now ≡ front ++ 32 ∷ [] → result.now ≡ front }
 {
     match text {
@@ -56,7 +56,7 @@ fn sides_of(text: &[u8]) -> Sides<'_>
     let (front, rest) = cut(text, b'=');
     match rest {
         Some(rest) => Sides {
-            results: Some(without_space_behind(front)),
+            results: Some(without_space_after(front)),
             applied: without_space_before(rest),
         },
         None => Sides {

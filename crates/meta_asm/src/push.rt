@@ -4,7 +4,7 @@ ghost use Rattle.meta_types.specs.TypeParts.{name_of};
 ghost use Rattle.meta_types.specs.TypeNumber.{type_with, IsTypeNumber};
 ghost use Rattle.meta_verify.specs.Statement.{value_text};
 ghost use Rattle.meta_verify.specs.Numbers.{typed_value_of, applied, IsTypedNumber, HasNumbers};
-ghost use Rattle.meta_asm.specs.Short.{shortened, short_results, short_result_text, joined, behind, control_written, values_written};
+ghost use Rattle.meta_asm.specs.Short.{shortened, short_results, short_result_text, joined, then_part, control_written, values_written};
 ghost use Rattle.meta_asm.specs.Short.{results_part, parameter_text, short_application};
 ghost use Rattle.meta_asm.specs.ShortWritten.{manner_in, before_place};
 
@@ -91,7 +91,7 @@ fn push_results(
 fn push_alone(leaves_out: bool, number: u16, out: &mut String) -> Result<(), AllocError>
     requires { IsTypeNumber number }
     ensures { OnOk result (string_bytes out.new
-        ≡ string_bytes out.old ++ behind 46 (control_written leaves_out (Some (type_with number)) None)) }
+        ≡ string_bytes out.old ++ then_part 46 (control_written leaves_out (Some (type_with number)) None)) }
 {
     if leaves_out {
         return Ok(());
@@ -110,7 +110,7 @@ fn push_control(
     requires control { IfSome control IsTypeNumber }
     requires second { IfSome second IsTypeNumber }
     ensures { OnOk result (string_bytes out.new
-        ≡ string_bytes out.old ++ behind 46 (control_written leaves_out (option_map type_with control) (option_map type_with second))) }
+        ≡ string_bytes out.old ++ then_part 46 (control_written leaves_out (option_map type_with control) (option_map type_with second))) }
 {
     let Some(number) = control else {
         return Ok(());
@@ -137,7 +137,7 @@ fn push_joined_values(values: &[u32], out: &mut String) -> Result<(), AllocError
 
 /// Adds what comes next, for the values: ` v0, v1`, or nothing.
 fn push_values(values: &[u32], out: &mut String) -> Result<(), AllocError>
-    ensures { OnOk result (string_bytes out.new ≡ string_bytes out.old ++ behind 32 (values_written (map value_text values.now))) }
+    ensures { OnOk result (string_bytes out.new ≡ string_bytes out.old ++ then_part 32 (values_written (map value_text values.now))) }
 {
     if values.is_empty() {
         return Ok(());

@@ -3,7 +3,7 @@ ghost use Rattle.std.specs.Option.{option_map};
 ghost use Rattle.meta_types.specs.TypeParts.{number_of};
 ghost use Rattle.meta_verify.specs.Statement.{TypedValue, IsTyped, typed_text, list_text};
 ghost use Rattle.meta_asm.specs.Short.{shortened, short_results, short_result_text, values_written};
-ghost use Rattle.meta_asm.specs.Parts.{TellTypes, comma_behind};
+ghost use Rattle.meta_asm.specs.Parts.{TellTypes, comma_after};
 
 use super::parts::without_space_before;
 use super::words::push_type;
@@ -32,7 +32,7 @@ fn push_result(
 
 /// Adds a comma, unless the word is empty.
 fn push_comma(word: &mut Vec<u8>) -> Result<(), AllocError>
-    ensures { OnOk result (word.new.items ≡ word.old.items ++ comma_behind word.old.items) }
+    ensures { OnOk result (word.new.items ≡ word.old.items ++ comma_after word.old.items) }
 {
     if word.is_empty() {
         return Ok(());

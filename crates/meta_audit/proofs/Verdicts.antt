@@ -214,9 +214,9 @@ module _ (d : InstructionSet) (other : TableContents) (well : IsWellFormedOpcode
   finds_declared name answer = (finds_to name answer, finds_from name answer)
 
 -- if a mapped option is `None`, so is the option
-none_behind : {X Y : Type 0} (f : X → Y) (o : Option X) → option_map f o ≡ None → o ≡ None
-none_behind f None e = refl
-none_behind f (Some x) e = absurd (none-some (f x) (sym e))
+none_after : {X Y : Type 0} (f : X → Y) (o : Option X) → option_map f o ≡ None → o ≡ None
+none_after f None e = refl
+none_after f (Some x) e = absurd (none-some (f x) (sym e))
 
 -- the one entry of a name is the first that has it, and there is no such entry if no entry has it
 finds_one : (names : List (List ℕ)) (name : List ℕ) (answer : Option ℕ) → ((e : ℕ) → ((answer ≡ Some e) ↔ (slice_get names e ≡ Some name)))
@@ -236,7 +236,7 @@ module _ (d : Declared) (t : WholeTables) (meant : AreMeant d t) (group : ℕ) (
         (entry_names (built_of g)) (meant.groups group ∙ ap (option_map (λ (x : GroupDeclaration). entry_names (built_of x))) at) in
         finds_exactly (entry_names (built_of g)) name answer
         (subst (λ (ns : List (List ℕ)). FindsEntry ns name answer) names (h.entry tables there)) (built_names g (valid group g at)) e;
-    no_group = λ none. h.no_group (none_behind (λ (x : GroupContents). names_in x.descriptors) (slice_get t.groups group)
+    no_group = λ none. h.no_group (none_after (λ (x : GroupContents). names_in x.descriptors) (slice_get t.groups group)
         (meant.groups group ∙ ap (option_map (λ (x : GroupDeclaration). entry_names (built_of x))) none));
   }
 
@@ -247,7 +247,7 @@ module _ (d : Declared) (t : WholeTables) (meant : AreMeant d t) (group : ℕ) (
         (names_in g.descriptors) (sym (meant.groups group) ∙ ap (option_map (λ (x : GroupContents). names_in x.descriptors)) at) in
         subst (λ (ns : List (List ℕ)). FindsEntry ns name answer) names
         (finds_one (entry_names (built_of declared)) name answer (h.entry declared there));
-    no_group = λ none. h.no_group (none_behind (λ (x : GroupDeclaration). entry_names (built_of x)) (slice_get d.groups group)
+    no_group = λ none. h.no_group (none_after (λ (x : GroupDeclaration). entry_names (built_of x)) (slice_get d.groups group)
         (sym (meant.groups group) ∙ ap (option_map (λ (x : GroupContents). names_in x.descriptors)) none));
   }
 

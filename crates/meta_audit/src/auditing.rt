@@ -3,7 +3,7 @@ ghost use Rattle.meta_types.specs.declared.fault.DefinitionError.TheVariants.{Ou
 ghost use Rattle.meta_inst.specs.Tables.{Allows};
 ghost use Rattle.meta_gen.specs.Found.{FindsName};
 ghost use Rattle.meta_gen.specs.TablesOf.{AcceptsOpcode};
-ghost use Rattle.meta_build.specs.AllDeclared.{ShowsFirst, AreValid};
+ghost use Rattle.meta_build.specs.AllDeclared.{HasFirstFault, AreValid};
 ghost use Rattle.meta_gen.specs.WholeTables.{AreWholeTablesOf, FindsSetting};
 ghost use Rattle.meta_gen.specs.WellFormed.{IsWellFormed};
 ghost use Rattle.meta_audit.specs.Verdict.{IsComparison, IsAuditVerdict, FindsOpcode, FindsSettingIn};
@@ -60,7 +60,7 @@ pub fn audit(
     declarations: &Declarations,
     tables: &Tables,
 ) -> Result<Verdict, DefinitionError>
-    ensures refused { IfErr result (λ e. e ≢ OutOfMemory → ShowsFirst declarations.now e) }
+    ensures refused { IfErr result (λ e. e ≢ OutOfMemory → HasFirstFault declarations.now e) }
     ensures valid { OnOk result (AreValid declarations.now) }
 
     // There is one verdict, and it is `Yes` for the tables of the declarations.

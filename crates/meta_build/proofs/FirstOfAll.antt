@@ -5,7 +5,7 @@ use Rattle.std.proofs.lemmas.Option.{same_Some}
 use Rattle.meta_types.specs.declared.fault.DefinitionError.{DefinitionError}
 use Rattle.meta_settings.specs.GroupDeclaration.{GroupDeclaration}
 use Rattle.meta_settings.specs.GroupFaults.{IsFirstGroupFault, IsValidGroup}
-use Rattle.meta_build.specs.AllDeclared.{Declared, AreValid, IsFirstOfGroups, ShowsFirst}
+use Rattle.meta_build.specs.AllDeclared.{Declared, AreValid, IsFirstOfGroups, HasFirstFault}
 use Rattle.meta_build.proofs.OneFault.{one_fault, none_where_valid}
 
 -- what is said of one group
@@ -34,13 +34,13 @@ module _ (one : OneGroupFault) (none : NoneOfValidGroup) where
       places (inr m) (inl l) = absurd (not_later groups f e g h l)
       places (inr m) (inr n) = here (omega (arith, m, n))
 
-  pub one_of_all : (d : Declared) (e f : DefinitionError) → ShowsFirst d e → ShowsFirst d f → e ≡ f
+  pub one_of_all : (d : Declared) (e f : DefinitionError) → HasFirstFault d e → HasFirstFault d f → e ≡ f
   one_of_all d e f (inl h) (inl g) = one_fault d.set e f h g
   one_of_all d e f (inl h) (inr g) = absurd (none_where_valid d.set e g.0 h)
   one_of_all d e f (inr h) (inl g) = absurd (none_where_valid d.set f h.0 g)
   one_of_all d e f (inr h) (inr g) = one_of_groups d.groups e f h.1 g.1
 
-  pub none_of_all : (d : Declared) (e : DefinitionError) → AreValid d → ShowsFirst d e → ⊥
+  pub none_of_all : (d : Declared) (e : DefinitionError) → AreValid d → HasFirstFault d e → ⊥
   none_of_all d e valid (inl h) = none_where_valid d.set e valid.set h
   none_of_all d e valid (inr h) = let first = h.1
       in none first.group first.place e (valid.groups first.place first.group first.at) first.first

@@ -234,7 +234,7 @@ module _ (f : FormatsInUse) (i : AreIndexed f) (new : UsedFormat) (t : IsOfTable
             (clash_by_structure place h)
       ];
       first = λ k u before at_u c. elim (shared k u at_u c) [
-        | inl h ↦ let not_behind = first.not_behind_one k (one_is ∙ i.named.complete name k h) in absurd (omega arith)
-        | inr h ↦ let not_behind = first.not_behind_other k (other_is ∙ i.structured.complete new.structure k h) in absurd (omega arith)
+        | inl h ↦ let not_after = first.not_after_one k (one_is ∙ i.named.complete name k h) in absurd (omega arith)
+        | inr h ↦ let not_after = first.not_after_other k (other_is ∙ i.structured.complete new.structure k h) in absurd (omega arith)
       ];
     }

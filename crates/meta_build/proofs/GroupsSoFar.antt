@@ -34,7 +34,7 @@ groups_next groups n g b old new at is_valid is more so = record {
 
     sound : (k : ℕ) (h : GroupDeclaration) → k < n + 1 → slice_get groups k ≡ Some h → (k < n) ⊎ (n ≤ k) → IsValidGroup h
     sound k h l at' (inl before) = so.valid k h before at'
-    sound k h l at' (inr behind) = subst IsValidGroup (same_group k h (omega (arith, l, behind)) at') is_valid
+    sound k h l at' (inr after) = subst IsValidGroup (same_group k h (omega (arith, l, after)) at') is_valid
 
 pub all_valid : (groups : List GroupDeclaration) (n : ℕ) (built : List Layout) → length groups ≤ n → AreBuiltTo groups n built
     → AreValidGroups groups

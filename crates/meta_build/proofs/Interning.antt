@@ -66,10 +66,10 @@ each_like F G zero a b to back h = h
 each_like F G (suc n) a b to back h = (h.0, each_like F G n a h.0 to back h.1, adds_like (F n) (G n) h.0 b (to n) (back n) h.2)
 
 -- first the one at 0, and then those after it
-pub each_behind : (F : ℕ → TypeSetParts → Type 0) (n : ℕ) (a b c : List TypeSetParts) → AddsSome (F 0) a b
+pub each_after : (F : ℕ → TypeSetParts → Type 0) (n : ℕ) (a b c : List TypeSetParts) → AddsSome (F 0) a b
     → AddsEach (λ k. F (suc k)) n b c → AddsEach F (suc n) a c
-each_behind F zero a b c first rest = (a, refl, subst (AddsSome (F 0) a) (sym rest) first)
-each_behind F (suc n) a b c first rest = (rest.0, each_behind F n a b rest.0 first rest.1, rest.2)
+each_after F zero a b c first rest = (a, refl, subst (AddsSome (F 0) a) (sym rest) first)
+each_after F (suc n) a b c first rest = (rest.0, each_after F n a b rest.0 first rest.1, rest.2)
 
 -- ---- needs in their order
 
@@ -82,8 +82,8 @@ one_later l q k p (inl b) = inl b
 one_later l q k p (inr h) = inr (h.0, omega (arith, h.1))
 
 -- what isn't before comes after all that is
-behind : (l q k p m r : ℕ) → ComesBefore l q k p → (ComesBefore m r k p → ⊥) → ComesBefore l q m r
-behind l q k p m r before not = elim (cases_order m k) [
+comes_later : (l q k p m r : ℕ) → ComesBefore l q k p → (ComesBefore m r k p → ⊥) → ComesBefore l q m r
+comes_later l q k p m r before not = elim (cases_order m k) [
   | inl same ↦ ⊎_elim (λ less. absurd (not (inr (same, less)))) (λ more. at_same same more before) (cases_lt r p)
   | inr other ↦ elim other [ inl less ↦ absurd (not (inl less)) | inr more ↦ after more before ]
 ]
@@ -205,21 +205,21 @@ module _ (d : InstructionSet) where
       once i j t a b = both i j t (at_place i t a) (at_place j t b)
 
       -- the new set is first needed after all others
-      behind_all : (i : ℕ) (t u : TypeSetParts) → slice_get sets i ≡ Some t → s ≡ u → IsNeededBefore d t u
-      behind_all i t u at same =
+      after_all : (i : ℕ) (t u : TypeSetParts) → slice_get sets i ≡ Some t → s ≡ u → IsNeededBefore d t u
+      after_all i t u at same =
           let (l, q, n, before) = h.needed i t at in
           record {
             instruction = l;
             place = q;
             needs = n;
-            first = λ m r need. behind l q k p m r before (λ b. let (j, there) = h.all m r u need b
+            first = λ m r need. comes_later l q k p m r before (λ b. let (j, there) = h.all m r u need b
                 in absent j (there ∙ ap Some (sym same)));
           }
 
       in_order : (i j : ℕ) (t u : TypeSetParts) → i < j → IsOld sets i t ⊎ IsLast sets s i t → IsOld sets j u ⊎ IsLast sets s j u
           → IsNeededBefore d t u
       in_order i j t u l (inl a) (inl b) = h.ordered i j t u l a.1 b.1
-      in_order i j t u l (inl a) (inr b) = behind_all i t u a.1 b.1
+      in_order i j t u l (inl a) (inr b) = after_all i t u a.1 b.1
       in_order i j t u l (inr a) (inl b) = absurd (omega (arith, l, a.0, b.0))
       in_order i j t u l (inr a) (inr b) = absurd (omega (arith, l, a.0, b.0))
 

@@ -27,7 +27,7 @@ use Rattle.meta_inst.proofs.Meaning.{operand_at, operand_from}
 use Rattle.meta_inst.proofs.OneControl.{same_control}
 use Rattle.meta_build.specs.Needed.{NeedsUnder, NeedsAtPlace, NeedsInOrder}
 use Rattle.meta_build.specs.Interned.{Adds, AddsSome, AddsEach, AddsNeeded, IsControlSetOf, IsFreeSetOf, IsFreeSetAt}
-use Rattle.meta_build.proofs.Interning.{adds_none, adds_one_set, adds_like, each_like, each_behind, IsInterned, needs_more}
+use Rattle.meta_build.proofs.Interning.{adds_none, adds_one_set, adds_like, each_like, each_after, IsInterned, needs_more}
 use Rattle.meta_build.proofs.Interning.{next_instruction}
 
 module _ (vars : List TypeVarContent) (o : OperandList) (within : o.result_count ≤ length o.variables) (c : Option ℕ)
@@ -104,14 +104,14 @@ module _ (vars : List TypeVarContent) (o : OperandList) (within : o.result_count
   second_back : (s : TypeSetParts) → NeedsAtPlace (sets_of vars) i 1 s → IsControlSetOf vars controls Second s
   second_back s n = control_back Second s (under 1 s n)
 
-  behind_back : (k : ℕ) (s : TypeSetParts) → NeedsAtPlace (sets_of vars) i (suc (suc k)) s → IsFreeSetAt vars controls o.variables k s
-  behind_back k s n = let f = under (suc (suc k)) s n in subst (λ p. IsFreeSetAt vars controls o.variables p s) f.1 (free_back s f.0)
+  after_back : (k : ℕ) (s : TypeSetParts) → NeedsAtPlace (sets_of vars) i (suc (suc k)) s → IsFreeSetAt vars controls o.variables k s
+  after_back k s n = let f = under (suc (suc k)) s n in subst (λ p. IsFreeSetAt vars controls o.variables p s) f.1 (free_back s f.0)
 
   no_more : (place : ℕ) (s : TypeSetParts) → suc (suc (length o.variables)) ≤ place → NeedsAtPlace (sets_of vars) i place s → ⊥
   no_more zero s l n = omega (arith, l)
   no_more (suc zero) s l n = omega (arith, l)
   no_more (suc (suc k)) s l n =
-      let f = behind_back k s n in
+      let f = after_back k s n in
       let inside = slice_get_within o.variables k f.variable f.at in
       omega (arith, l, inside)
 
@@ -121,12 +121,12 @@ module _ (vars : List TypeVarContent) (o : OperandList) (within : o.result_count
       → AddsNeeded (sets_of vars) i a d
   adds_needed a b x d first next rest = record {
     end = suc (suc (length o.variables));
-    each = each_behind (NeedsAtPlace (sets_of vars) i) (suc (length o.variables)) a b d
+    each = each_after (NeedsAtPlace (sets_of vars) i) (suc (length o.variables)) a b d
         (adds_like (IsControlSetOf vars controls First) (NeedsAtPlace (sets_of vars) i 0) a b from_first first_back first)
-        (each_behind (λ k. NeedsAtPlace (sets_of vars) i (suc k)) (length o.variables) b x d
+        (each_after (λ k. NeedsAtPlace (sets_of vars) i (suc k)) (length o.variables) b x d
         (adds_like (IsControlSetOf vars controls Second) (NeedsAtPlace (sets_of vars) i 1) b x from_second second_back next)
         (each_like (IsFreeSetAt vars controls o.variables) (λ k. NeedsAtPlace (sets_of vars) i (suc (suc k)))
-        (length o.variables) x d from_free behind_back rest));
+        (length o.variables) x d from_free after_back rest));
     no_more = no_more;
   }
 

@@ -47,13 +47,13 @@ module _ {A : Type 0} (R : A → A → Type 0) (strict : (a b : A) → R a b →
       absurd (strict x y (a zero (suc j) x y (omega arith) refl f) (b zero (suc k) y x (omega arith) refl e))
 
   -- what comes after the first of one list comes after the first of the other
-  behind : (x y a : A) (xs ys : List A) → x ≡ y → InOrder (x ∷ xs) → (j : ℕ) → slice_get xs j ≡ Some a → (k : ℕ)
+  after : (x y a : A) (xs ys : List A) → x ≡ y → InOrder (x ∷ xs) → (j : ℕ) → slice_get xs j ≡ Some a → (k : ℕ)
       → slice_get (y ∷ ys) k ≡ Some a → Stands ys a
-  behind x y a xs ys same o j e zero f =
+  after x y a xs ys same o j e zero f =
       let first : R x a = o zero (suc j) x a (omega arith) refl e in
       let twice : R a a = subst (λ (z : A). R z a) (same ∙ same_Some y a f) first in
       absurd (strict a a twice twice)
-  behind x y a xs ys same o j e (suc k) f = (k, f)
+  after x y a xs ys same o j e (suc k) f = (k, f)
 
   later : (x : A) (xs : List A) → InOrder (x ∷ xs) → InOrder xs
   later x xs o j k a b l e f = o (suc j) (suc k) a b (omega arith) e f
@@ -75,8 +75,8 @@ module _ {A : Type 0} (R : A → A → Type 0) (strict : (a b : A) → R a b →
       let here = from y zero refl in
       let first = same_first x y xs ys a b there.0 there.1 here.0 here.1 in
       let rest = one_order xs ys (later x xs a) (later y ys b)
-      (λ z k e. let h = to z (suc k) e in behind x y z xs ys first a k e h.0 h.1)
-      (λ z k e. let h = from z (suc k) e in behind y x z ys xs (sym first) b k e h.0 h.1) in
+      (λ z k e. let h = to z (suc k) e in after x y z xs ys first a k e h.0 h.1)
+      (λ z k e. let h = from z (suc k) e in after y x z ys xs (sym first) b k e h.0 h.1) in
       λ i. first i ∷ rest i
 
 -- ---- the formats in use

@@ -15,7 +15,7 @@ use Rattle.meta_inst.specs.InstructionSet.{InstructionSet}
 use Rattle.meta_inst.specs.InstructionFaults.{Rule, Breaks}
 use Rattle.meta_inst.specs.Faults.{names_of, IsFirstUse, IsFirstClash, FormatRule, FormatNameRule, BlocksRule, ClashRule}
 use Rattle.meta_inst.specs.Faults.{format_rule_number, Position, OfOpcodes, OfInstruction, OfFormat, OfTypeSets, position_key, FormatBreaks}
-use Rattle.meta_inst.specs.Faults.{ShowsAt, IsFirstFault, IsValid}
+use Rattle.meta_inst.specs.Faults.{HasFaultAt, IsFirstFault, IsValid}
 use Rattle.meta_inst.proofs.OneOwnFault.{rule_of, rule_count, few_rules, one_broken}
 use Rattle.meta_inst.proofs.OneOwnFault as own
 use Rattle.meta_build.proofs.Counted.{one_count}
@@ -48,8 +48,8 @@ known OfTypeSets = refl
 module _ (d : InstructionSet) where
   -- ---- at a position one fault is shown
 
-  one_at_instruction : (k : ℕ) (rule : Rule) (e f : DefinitionError) → ShowsAt d (OfInstruction k rule) e
-      → ShowsAt d (OfInstruction k rule) f → e ≡ f
+  one_at_instruction : (k : ℕ) (rule : Rule) (e f : DefinitionError) → HasFaultAt d (OfInstruction k rule) e
+      → HasFaultAt d (OfInstruction k rule) f → e ≡ f
   one_at_instruction k rule e f (inl h) (inl g) =
       one_broken d.vars d.formats g.builder (k + 1) rule e f (subst (λ (b : Builder). Breaks d.vars d.formats b (k + 1) rule e)
       (same_Some h.builder g.builder (sym h.at ∙ g.at)) h.breaks) g.breaks
@@ -82,7 +82,7 @@ module _ (d : InstructionSet) where
   one_of_format k f BlocksRule e g a b = a.0 ∙ sym b.0
   one_of_format k f ClashRule e g a b = a.1 ∙ ap (FormatClash f) (one_clash f k a.0 b.0 a.2 b.2) ∙ sym b.1
 
-  one_shown : (p : Position) (e f : DefinitionError) → ShowsAt d p e → ShowsAt d p f → e ≡ f
+  one_shown : (p : Position) (e f : DefinitionError) → HasFaultAt d p e → HasFaultAt d p f → e ≡ f
   one_shown OfOpcodes e f h g = h.0 ∙ sym g.0
   one_shown (OfInstruction k rule) e f h g = one_at_instruction k rule e f h g
   one_shown (OfFormat k rule) e f h g =
@@ -98,13 +98,13 @@ module _ (d : InstructionSet) where
   abbrev pub rules_of : ℕ → ℕ
   rules_of part = if part == 1 then rule_count else (if part == 2 then length format_rules else 1)
 
-  of_instruction : (k : ℕ) (rule : Rule) (e : DefinitionError) → ShowsAt d (OfInstruction k rule) e → k < length d.instructions
+  of_instruction : (k : ℕ) (rule : Rule) (e : DefinitionError) → HasFaultAt d (OfInstruction k rule) e → k < length d.instructions
   of_instruction k rule e (inl h) = slice_get_within d.instructions k h.builder h.at
   of_instruction k rule e (inr h) =
       let l = slice_get_within (names_of d) k h.duplicate.name h.duplicate.is_name in
       omega (arith, l, length-map d.instructions (λ (b : Builder). b.name))
 
-  within : (p : Position) (e : DefinitionError) → ShowsAt d p e → IsIn 4 places_of rules_of (position_key p)
+  within : (p : Position) (e : DefinitionError) → HasFaultAt d p e → IsIn 4 places_of rules_of (position_key p)
   within OfOpcodes e s = record { part = omega arith; place = omega arith; rule = omega arith }
   within (OfInstruction k rule) e s = record { part = omega arith; place = of_instruction k rule e s; rule = few_rules rule }
   within (OfFormat k rule) e s = record {
@@ -114,7 +114,7 @@ module _ (d : InstructionSet) where
   }
   within OfTypeSets e s = record { part = omega arith; place = omega arith; rule = omega arith }
 
-  pub searchable : IsSearchable position_key (ShowsAt d) 4 places_of rules_of
+  pub searchable : IsSearchable position_key (HasFaultAt d) 4 places_of rules_of
   searchable = record { position_of = position_of; known = known; one = one_shown; within = within }
 
 -- Declarations have at most one first fault.

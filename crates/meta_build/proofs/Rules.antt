@@ -9,13 +9,13 @@ use Rattle.meta_types.specs.declared.fault.Place.TheVariants.{Instruction as AtI
 use Rattle.meta_types.specs.declared.fault.DefinitionError.{DefinitionError}
 use Rattle.meta_types.specs.declared.fault.DefinitionError.TheVariants.{BadName, DuplicateName, OutOfMemory}
 use Rattle.meta_types.specs.SharedNames.{IsDuplicate}
-use Rattle.meta_types.specs.FirstFault.{key_at, ShowsNoneBefore}
+use Rattle.meta_types.specs.FirstFault.{key_at, HasNoneBefore}
 use Rattle.meta_types.proofs.FirstFault.{next_place, some_rules}
 use Rattle.meta_inst.specs.Builder.{Builder}
 use Rattle.meta_inst.specs.Built.{BuiltInstruction}
 use Rattle.meta_inst.specs.InstructionSet.{InstructionSet}
 use Rattle.meta_inst.specs.InstructionFaults.{Rule, NameRule, DuplicateRule, rule_number, Breaks, IsFirstOwnFault, IsWellMade}
-use Rattle.meta_inst.specs.Faults.{IsAt, names_of, Position, OfOpcodes, OfInstruction, OfFormat, OfTypeSets, position_key, ShowsAt}
+use Rattle.meta_inst.specs.Faults.{IsAt, names_of, Position, OfOpcodes, OfInstruction, OfFormat, OfTypeSets, position_key, HasFaultAt}
 use Rattle.meta_inst.specs.Faults.{IsFirstFault}
 use Rattle.meta_inst.proofs.OneOwnFault.{rule_count, first_rule, later}
 use Rattle.meta_inst.specs.Content.{content_of, IsPolymorphicInfoOf}
@@ -26,10 +26,10 @@ use Rattle.meta_build.proofs.OneFault.{searchable}
 module _ (d : InstructionSet) (k : ℕ) (b : Builder) (at : IsAt d k b) (clean : IsCleanBefore d (OfInstruction k NameRule)) where
   -- the first rules are kept where the instruction keeps them by itself, and its name, if it is among them
   first_rules : (n : ℕ) → ((rule : Rule) (e : DefinitionError) → rule_number rule < n → Breaks d.vars d.formats b (k + 1) rule e → ⊥)
-      → (1 < n → (j : ℕ) → IsDuplicate (names_of d) k j → ⊥) → ShowsNoneBefore position_key (ShowsAt d) (key_at 1 k n)
+      → (1 < n → (j : ℕ) → IsDuplicate (names_of d) k j → ⊥) → HasNoneBefore position_key (HasFaultAt d) (key_at 1 k n)
   first_rules n own unshared = some_rules (searchable d) 1 k n clean never
     where
-      here : (i : ℕ) (rule : Rule) (e : DefinitionError) → i ≡ k → rule_number rule < n → ShowsAt d (OfInstruction i rule) e → ⊥
+      here : (i : ℕ) (rule : Rule) (e : DefinitionError) → i ≡ k → rule_number rule < n → HasFaultAt d (OfInstruction i rule) e → ⊥
       here i rule e is l (inl s) = own rule e l (subst (λ m. Breaks d.vars d.formats b (m + 1) rule e) is
           (subst (λ (x : Builder). Breaks d.vars d.formats x (i + 1) rule e) (same_Some s.builder b (sym s.at
           ∙ ap (slice_get d.instructions) is ∙ at)) s.breaks))
@@ -38,7 +38,7 @@ module _ (d : InstructionSet) (k : ℕ) (b : Builder) (at : IsAt d k b) (clean :
           unshared (omega (arith, l, second)) s.earlier (subst (λ m. IsDuplicate (names_of d) m s.earlier) is s.duplicate)
 
       never : (p : Position) (e : DefinitionError) → (position_key p).part ≡ 1 → (position_key p).place ≡ k → (position_key p).rule < n
-          → ShowsAt d p e → ⊥
+          → HasFaultAt d p e → ⊥
       never OfOpcodes e part place l s = omega (arith, part)
       never (OfInstruction i rule) e part place l s = here i rule e place l s
       never (OfFormat i rule) e part place l s = omega (arith, part)
@@ -94,10 +94,10 @@ module _ (d : InstructionSet) (k : ℕ) (b : Builder) (at : IsAt d k b) (clean :
       → IfErr built (λ e. e ≢ OutOfMemory → IsFirstOwnFault d.vars d.formats b (k + 1) e) → OnOk built (IsWellMade d.vars d.formats b)
       → (IsRefusedFirst built → ⊥)
       → (j : ℕ) → IsDuplicate (names_of d) k j → IsFirstFault d (DuplicateName (AtInstruction (k + 1)) (j + 1))
-  shared_told (Ok c) refused well behind = shared_first (λ rule f l s. well (k + 1) rule f s)
-  shared_told (Err e) refused well behind =
-      let first = refused (λ s. behind (inr (ap Err s))) in
-      let later = later d.vars d.formats b (k + 1) first.position e first.shows (λ p is. behind (inl (p, ap Err is))) in
+  shared_told (Ok c) refused well after = shared_first (λ rule f l s. well (k + 1) rule f s)
+  shared_told (Err e) refused well after =
+      let first = refused (λ s. after (inr (ap Err s))) in
+      let later = later d.vars d.formats b (k + 1) first.position e first.shows (λ p is. after (inl (p, ap Err is))) in
       shared_first (λ rule f l s. first.first rule f (inr (refl, inr (refl, omega (arith, l, later)))) s)
 
   -- its name was added, if it could be, after it was built
@@ -114,13 +114,13 @@ module _ (d : InstructionSet) (k : ℕ) (b : Builder) (at : IsAt d k b) (clean :
       → r ≡ result_and added built → OnOk added (IsUnshared d k) → IfErr added (λ e. e ≢ OutOfMemory → IsSharedName d k e)
       → IfErr built (λ e. e ≢ OutOfMemory → IsFirstOwnFault d.vars d.formats b (k + 1) e) → OnOk built (IsWellMade d.vars d.formats b)
       → (IsRefusedFirst built → ⊥) → IfErr r (λ e. e ≢ OutOfMemory → IsFirstFault d e)
-  added_refused (Ok u) built r is unshared shares refused well behind =
+  added_refused (Ok u) built r is unshared shares refused well after =
       subst (λ (s : Result BuiltInstruction DefinitionError). IfErr s (λ e. e ≢ OutOfMemory → IsFirstFault d e)) (sym is)
       (refused_told unshared built refused)
-  added_refused (Err e) built r is unshared shares refused well behind =
+  added_refused (Err e) built r is unshared shares refused well after =
       subst (λ (s : Result BuiltInstruction DefinitionError). IfErr s (λ e. e ≢ OutOfMemory → IsFirstFault d e)) (sym is) (λ other.
       let shared = shares other in
-      subst (IsFirstFault d) (sym shared.tells) (shared_told built refused well behind shared.earlier shared.duplicate))
+      subst (IsFirstFault d) (sym shared.tells) (shared_told built refused well after shared.earlier shared.duplicate))
 
 module _ (d : InstructionSet) (k : ℕ) (b : Builder) (at : IsAt d k b) where
   -- what is built of it

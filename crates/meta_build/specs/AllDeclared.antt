@@ -1,5 +1,5 @@
 -- Declarations: an instruction set, and groups of settings. Their faults, and the order in which they are looked for.
---     ShowsFirst d e        e is the first fault that the declarations show
+--     HasFirstFault d e     e is the first fault of the declarations
 --     AreValid d            they show none
 use Rattle.std.specs.Prelude.{◌≡◌, ◌<◌, ◌⊎◌, ℕ, List, slice_get, Some}
 use Rattle.meta_types.specs.declared.fault.DefinitionError.{DefinitionError}
@@ -26,8 +26,8 @@ pub record IsFirstOfGroups (groups : List GroupDeclaration) (e : DefinitionError
   pub earlier : (k : ℕ) (g : GroupDeclaration) → k < place → slice_get groups k ≡ Some g → IsValidGroup g
 
 -- the first fault of the instruction set, and where it shows none, the first of the groups
-abbrev pub ShowsFirst : Declared → DefinitionError → Type 0
-ShowsFirst d e = IsFirstFault d.set e ⊎ (IsValid d.set × IsFirstOfGroups d.groups e)
+abbrev pub HasFirstFault : Declared → DefinitionError → Type 0
+HasFirstFault d e = IsFirstFault d.set e ⊎ (IsValid d.set × IsFirstOfGroups d.groups e)
 
 -- neither the instruction set nor a group has a fault
 pub record AreValid (d : Declared) : Type 0 where

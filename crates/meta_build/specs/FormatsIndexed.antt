@@ -48,5 +48,5 @@ pub record AreIndexed (f : FormatsInUse) : Type 0 where
 -- the first of two places, where there is one
 pub record IsFirstOf (one other : Option ℕ) (place : ℕ) : Type 0 where
   pub is : (one ≡ Some place) ⊎ (other ≡ Some place)
-  pub not_behind_one : (p : ℕ) → one ≡ Some p → place ≤ p
-  pub not_behind_other : (p : ℕ) → other ≡ Some p → place ≤ p
+  pub not_after_one : (p : ℕ) → one ≡ Some p → place ≤ p
+  pub not_after_other : (p : ℕ) → other ≡ Some p → place ≤ p

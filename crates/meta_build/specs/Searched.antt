@@ -1,6 +1,6 @@
 -- What the parts of the search for the first fault find.
 use Rattle.std.specs.Prelude.{◌≡◌, ◌+◌, ◌⊎◌, ℕ, List, Result, Err}
-use Rattle.meta_types.specs.FirstFault.{ShowsNoneBefore}
+use Rattle.meta_types.specs.FirstFault.{HasNoneBefore}
 use Rattle.meta_types.specs.declared.fault.DefinitionError.{DefinitionError}
 use Rattle.meta_types.specs.SharedNames.{IsDuplicate}
 use Rattle.meta_types.specs.declared.fault.Place.{Place}
@@ -9,13 +9,13 @@ use Rattle.meta_types.specs.declared.fault.DefinitionError.TheVariants.{BadName,
 use Rattle.meta_inst.specs.Builder.{Builder}
 use Rattle.meta_inst.specs.Built.{BuiltInstruction}
 use Rattle.meta_inst.specs.InstructionSet.{InstructionSet}
-use Rattle.meta_inst.specs.Faults.{IsAt, FormatNameRule, OfFormat, Position, position_key, names_of, ShowsAt}
+use Rattle.meta_inst.specs.Faults.{IsAt, FormatNameRule, OfFormat, Position, position_key, names_of, HasFaultAt}
 use Rattle.meta_build.specs.declared.formats.UsedFormat.{UsedFormat}
 use Rattle.meta_build.specs.FormatsUsed.{AreUsedBefore, IsNotAmong}
 
 -- the declarations have no fault before the position
 abbrev pub IsCleanBefore : InstructionSet → Position → Type 0
-IsCleanBefore d p = ShowsNoneBefore position_key (ShowsAt d) (position_key p)
+IsCleanBefore d p = HasNoneBefore position_key (HasFaultAt d) (position_key p)
 
 -- building was refused by what comes before clashes of names: a bad name, or memory that ran out
 abbrev pub IsRefusedFirst : Result BuiltInstruction DefinitionError → Type 0

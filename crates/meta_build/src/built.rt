@@ -2,7 +2,7 @@ ghost use Rattle.std.specs.Prelude.{◌≡◌, ◌≢◌, ◌<◌, ◌≤◌, �
 ghost use Rattle.meta_types.specs.declared.fault.DefinitionError.TheVariants.{OutOfMemory};
 ghost use Rattle.meta_inst.specs.Faults.{FormatNameRule, OfFormat, OfTypeSets, IsFirstFault, IsValid};
 ghost use Rattle.meta_settings.specs.LaidOut.{built_of};
-ghost use Rattle.meta_build.specs.AllDeclared.{ShowsFirst, AreValid, AreValidGroups, IsFirstOfGroups};
+ghost use Rattle.meta_build.specs.AllDeclared.{HasFirstFault, AreValid, AreValidGroups, IsFirstOfGroups};
 ghost use Rattle.meta_build.specs.BuiltDeclarations.{AreBuilt};
 ghost use Rattle.meta_build.specs.BuiltInstructions.{AreInstructionsOf};
 ghost use Rattle.meta_build.specs.FormatsUsed.{AreUsedBefore, AreApart, AreOfTable};
@@ -180,7 +180,7 @@ pub fn build_all<'d>(
     alloc: Global,
     declarations: &'d Declarations,
 ) -> Result<Built<'d>, DefinitionError>
-    ensures refused { IfErr result (λ e. e ≢ OutOfMemory → ShowsFirst declarations.now e) }
+    ensures refused { IfErr result (λ e. e ≢ OutOfMemory → HasFirstFault declarations.now e) }
     ensures valid { OnOk result (AreValid declarations.now) }
     ensures declarations { IfOk result (λ b. b.declared ≡ declarations.now) }
 {

@@ -1,4 +1,4 @@
-mod Behind
+mod After
 mod First
 mod Line
 mod Numbers

@@ -3,7 +3,7 @@ use Rattle.std.proofs.Common.{◌≡◌, ℕ, suc, ◌<◌, ◌≤◌, ◌⊎◌
 use Rattle.std.proofs.Common.{flat_map, refl, sym, subst, arith}
 use Rattle.std.specs.Char.Escape.{escape_ascii}
 use Rattle.std.proofs.lemmas.Bool.{cases_lt}
-use Rattle.meta_command_line.specs.Usage.{IsPlain, IsShown, IsShownAt, misuse_text, misuse_place, TellsWrong, command_behind_comma}
+use Rattle.meta_command_line.specs.Usage.{IsPlain, IsShown, IsShownAt, misuse_text, misuse_place, TellsWrong, command_after_comma}
 use Rattle.meta_command_line.specs.Usage.{commands_text, ArePlainlyNamed}
 use Rattle.meta_command_line.specs.declared.manual.CommandForm.{CommandForm}
 use Rattle.meta_command_line.specs.declared.misuse.Misuse.{Misuse}
@@ -54,16 +54,16 @@ wrong_text_plain NumberMissing name word n w =
 -- the text on what is wrong is plain
 pub wrong_plain : (words : List (List ℕ)) (m : Misuse) (text : List ℕ) → TellsWrong words m text → IsPlain text
 wrong_plain [] m text is = subst IsPlain (sym is) (plain_from (codes "no command") refl)
-wrong_plain (name ∷ behind) m text h =
+wrong_plain (name ∷ after) m text h =
     subst IsPlain (sym h.is) (wrong_text_plain m h.name_shown h.word_shown (shown_plain name h.name_shown h.shows_name)
-    (shown_at_plain behind (misuse_place m) h.word_shown h.shows_word))
+    (shown_at_plain after (misuse_place m) h.word_shown h.shows_word))
 
 commands_plain : (commands : List CommandForm) → ArePlainlyNamed commands → IsPlain (commands_text commands)
 commands_plain [] named = plain_from (codes "the program takes no words") refl
 commands_plain (command ∷ commands) named =
     plain_append (codes "the commands are ") _ (plain_from (codes "the commands are ") refl)
     (plain_append command.name.now _ (named 0 command refl)
-    (plain_flat_map command_behind_comma commands (λ k c at. plain_append (codes ", ") c.name.now (plain_from (codes ", ") refl)
+    (plain_flat_map command_after_comma commands (λ k c at. plain_append (codes ", ") c.name.now (plain_from (codes ", ") refl)
     (named (suc k) c at))))
 
 -- a usage line is plain

@@ -3,7 +3,7 @@ use Rattle.std.proofs.Common.{◌≡◌, ◌≢◌, ◌∙◌, ℕ, ◌+◌, ◌
 use Rattle.std.proofs.lemmas.Bool.{cases_lt}
 use Rattle.std.proofs.lemmas.Option.{same_Some, slice_get_within}
 use Rattle.meta_command_line.specs.Misuse.{AreNumbersIn, IsFirstNamed, AreTaken}
-use Rattle.meta_command_line.specs.Misuse.{IsMisuseBehind, IsMisuseOf, IsMisuse}
+use Rattle.meta_command_line.specs.Misuse.{IsMisuseAfter, IsMisuseOf, IsMisuse}
 use Rattle.meta_command_line.specs.declared.manual.CommandForm.{CommandForm}
 use Rattle.meta_command_line.specs.declared.manual.Range.{Range}
 use Rattle.meta_command_line.specs.declared.misuse.Misuse.{Misuse}
@@ -32,17 +32,17 @@ one_first commands name c d h k = ⊎_elim
     (cases_lt h.named.place k.named.place)
 
 -- words that write the numbers have no misuse after the name
-no_misuse_behind : (ranges : List Range) (words : List (List ℕ)) (m : Misuse) → AreNumbersIn ranges words
-    → IsMisuseBehind ranges words m → ⊥
-no_misuse_behind ranges words NoWord are h = h
-no_misuse_behind ranges words NoCommand are h = h
-no_misuse_behind ranges words (NoNumber k) are h = h.5 (are.numbers k h.1 h.2 (slice_get_within ranges k h.1 h.3) h.3 h.4)
-no_misuse_behind ranges words (WordTooMany k) are h =
+no_misuse_after : (ranges : List Range) (words : List (List ℕ)) (m : Misuse) → AreNumbersIn ranges words
+    → IsMisuseAfter ranges words m → ⊥
+no_misuse_after ranges words NoWord are h = h
+no_misuse_after ranges words NoCommand are h = h
+no_misuse_after ranges words (NoNumber k) are h = h.5 (are.numbers k h.1 h.2 (slice_get_within ranges k h.1 h.3) h.3 h.4)
+no_misuse_after ranges words (WordTooMany k) are h =
     let count : length words ≡ length ranges = are.count in
     let place : k ≡ length ranges = h.1 in
     let within : k < length words = h.2 in
     omega arith
-no_misuse_behind ranges words NumberMissing are h =
+no_misuse_after ranges words NumberMissing are h =
     let count : length words ≡ length ranges = are.count in
     let few : length words < length ranges = h.1 in
     omega arith
@@ -50,24 +50,24 @@ no_misuse_behind ranges words NumberMissing are h =
 of_command : (commands : List CommandForm) (words : List (List ℕ)) (m : Misuse) → AreTaken commands words → IsMisuseOf commands words m → ⊥
 of_command commands words m t h =
     let mine = t.are.command.name.now in
-    let same : mine ∷ t.are.behind ≡ h.command.name.now ∷ h.behind = sym t.are.are ∙ h.are in
+    let same : mine ∷ t.are.after ≡ h.command.name.now ∷ h.after = sym t.are.are ∙ h.are in
     let name : mine ≡ h.command.name.now = ap (head_of []) same in
-    let behind : t.are.behind ≡ h.behind = ap tail_of same in
+    let after : t.are.after ≡ h.after = ap tail_of same in
     let first : IsFirstNamed commands mine t.are.command = record { named = t.are.named; first = t.first } in
     let other : IsFirstNamed commands mine h.command = subst (λ (n : List ℕ). IsFirstNamed commands n h.command) (sym name) h.named in
     let command : t.are.command ≡ h.command = one_first commands mine t.are.command h.command first other in
-    let numbers : AreNumbersIn h.command.numbers.now h.behind =
-    subst (λ (c : CommandForm). AreNumbersIn c.numbers.now h.behind) command
-    (subst (AreNumbersIn t.are.command.numbers.now) behind t.are.numbers) in
-    no_misuse_behind h.command.numbers.now h.behind m numbers h.misuse
+    let numbers : AreNumbersIn h.command.numbers.now h.after =
+    subst (λ (c : CommandForm). AreNumbersIn c.numbers.now h.after) command
+    (subst (AreNumbersIn t.are.command.numbers.now) after t.are.numbers) in
+    no_misuse_after h.command.numbers.now h.after m numbers h.misuse
 
 pub never_both : (commands : List CommandForm) (words : List (List ℕ)) (m : Misuse) → AreTaken commands words
     → IsMisuse commands words m → ⊥
 never_both commands words NoWord t h =
-    let clash : t.are.command.name.now ∷ t.are.behind ≡ [] = sym t.are.are ∙ h in
+    let clash : t.are.command.name.now ∷ t.are.after ≡ [] = sym t.are.are ∙ h in
     absurd (let count = ap length clash in omega (arith, count))
 never_both commands words NoCommand t h =
-    let same : t.are.command.name.now ∷ t.are.behind ≡ h.0 ∷ h.1 = sym t.are.are ∙ h.2 in
+    let same : t.are.command.name.now ∷ t.are.after ≡ h.0 ∷ h.1 = sym t.are.are ∙ h.2 in
     h.3 t.are.named.place t.are.command t.are.named.at (ap (head_of []) same)
 never_both commands words (NoNumber k) t h = of_command commands words (NoNumber k) t h
 never_both commands words (WordTooMany k) t h = of_command commands words (WordTooMany k) t h

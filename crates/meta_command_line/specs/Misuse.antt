@@ -49,10 +49,10 @@ NamesNone commands name = (k : ℕ) (command : CommandForm) → slice_get comman
 -- the words are a command: its name, and its numbers after it
 pub record AreCommandWords (commands : List CommandForm) (words : List (List ℕ)) : Type 0 where
   pub command : CommandForm
-  pub behind : List (List ℕ)
-  pub are : words ≡ command.name.now ∷ behind
+  pub after : List (List ℕ)
+  pub are : words ≡ command.name.now ∷ after
   pub named : IsNamed commands command.name.now command
-  pub numbers : AreNumbersIn command.numbers.now behind
+  pub numbers : AreNumbersIn command.numbers.now after
 
 -- the words are a command, and none of the commands before it has its name
 pub record AreTaken (commands : List CommandForm) (words : List (List ℕ)) : Type 0 where
@@ -60,26 +60,26 @@ pub record AreTaken (commands : List CommandForm) (words : List (List ℕ)) : Ty
   pub first : NamesNoneBefore are.named.place commands are.command.name.now
 
 -- the words after a name aren't numbers of these ranges, and m says which word is the first that is wrong
-abbrev pub IsMisuseBehind : List Range → List (List ℕ) → Misuse → Type 0
-IsMisuseBehind ranges words NoWord = ⊥
-IsMisuseBehind ranges words NoCommand = ⊥
-IsMisuseBehind ranges words (NoNumber k) = AreNumbersTo k ranges words × (range : Range) × (word : List ℕ)
+abbrev pub IsMisuseAfter : List Range → List (List ℕ) → Misuse → Type 0
+IsMisuseAfter ranges words NoWord = ⊥
+IsMisuseAfter ranges words NoCommand = ⊥
+IsMisuseAfter ranges words (NoNumber k) = AreNumbersTo k ranges words × (range : Range) × (word : List ℕ)
     × (slice_get ranges k ≡ Some range) × (slice_get words k ≡ Some word) × (IsNumberIn range word → ⊥)
-IsMisuseBehind ranges words (WordTooMany k) = AreNumbersTo k ranges words × (k ≡ length ranges) × (k < length words)
-IsMisuseBehind ranges words NumberMissing = AreNumbersTo (length words) ranges words × (length words < length ranges)
+IsMisuseAfter ranges words (WordTooMany k) = AreNumbersTo k ranges words × (k ≡ length ranges) × (k < length words)
+IsMisuseAfter ranges words NumberMissing = AreNumbersTo (length words) ranges words × (length words < length ranges)
 
 -- the words begin with the name of a command, the first of this name, and the words after it have this misuse
 pub record IsMisuseOf (commands : List CommandForm) (words : List (List ℕ)) (m : Misuse) : Type 0 where
   pub command : CommandForm
-  pub behind : List (List ℕ)
-  pub are : words ≡ command.name.now ∷ behind
+  pub after : List (List ℕ)
+  pub are : words ≡ command.name.now ∷ after
   pub named : IsFirstNamed commands command.name.now command
-  pub misuse : IsMisuseBehind command.numbers.now behind m
+  pub misuse : IsMisuseAfter command.numbers.now after m
 
 -- the words aren't taken, and m says which word is the first that is wrong
 abbrev pub IsMisuse : List CommandForm → List (List ℕ) → Misuse → Type 0
 IsMisuse commands words NoWord = words ≡ []
-IsMisuse commands words NoCommand = (name : List ℕ) × (behind : List (List ℕ)) × (words ≡ name ∷ behind) × NamesNone commands name
+IsMisuse commands words NoCommand = (name : List ℕ) × (after : List (List ℕ)) × (words ≡ name ∷ after) × NamesNone commands name
 IsMisuse commands words (NoNumber k) = IsMisuseOf commands words (NoNumber k)
 IsMisuse commands words (WordTooMany k) = IsMisuseOf commands words (WordTooMany k)
 IsMisuse commands words NumberMissing = IsMisuseOf commands words NumberMissing

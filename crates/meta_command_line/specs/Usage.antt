@@ -43,26 +43,26 @@ misuse_place (WordTooMany place) = place
 misuse_place NumberMissing = 0
 
 -- the text says what is wrong with the words by m, and names the word
-pub record IsWrongBehind (name : List ℕ) (behind : List (List ℕ)) (m : Misuse) (text : List ℕ) : Type 0 where
+pub record IsWrongAfter (name : List ℕ) (after : List (List ℕ)) (m : Misuse) (text : List ℕ) : Type 0 where
   pub name_shown : List ℕ
   pub shows_name : IsShown name name_shown
   pub word_shown : List ℕ
-  pub shows_word : IsShownAt behind (misuse_place m) word_shown
+  pub shows_word : IsShownAt after (misuse_place m) word_shown
   pub is : text ≡ misuse_text m name_shown word_shown
 
 -- the same for all words: the first is the name; if there is no word, the text says just that there is no command
 abbrev pub TellsWrong : List (List ℕ) → Misuse → List ℕ → Type 0
 TellsWrong [] m text = text ≡ codes "no command"
-TellsWrong (name ∷ behind) m text = IsWrongBehind name behind m text
+TellsWrong (name ∷ after) m text = IsWrongAfter name after m text
 
 -- a name after a comma
-abbrev pub command_behind_comma : CommandForm → List ℕ
-command_behind_comma command = codes ", " ++ command.name.now
+abbrev pub command_after_comma : CommandForm → List ℕ
+command_after_comma command = codes ", " ++ command.name.now
 
 -- which commands there are, with commas between their names; if there are none, no word is taken
 abbrev pub commands_text : List CommandForm → List ℕ
 commands_text [] = codes "the program takes no words"
-commands_text (command ∷ commands) = codes "the commands are " ++ (command.name.now ++ flat_map command_behind_comma commands)
+commands_text (command ∷ commands) = codes "the commands are " ++ (command.name.now ++ flat_map command_after_comma commands)
 
 -- the name of each command is plain
 abbrev pub ArePlainlyNamed : List CommandForm → Type 0

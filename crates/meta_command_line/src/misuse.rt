@@ -1,6 +1,6 @@
 ghost use Rattle.std.specs.Prelude.{◌≡◌, ◌↔◌, ℕ, List, IsTrue, IfSome, IfNone};
 ghost use Rattle.meta_command_line.specs.Usage.{misuse_place};
-ghost use Rattle.meta_command_line.specs.Misuse.{IsNumberIn, AreNumbersIn, IsMisuseBehind, IsMisuse, AreTaken, IsFirstNamed, NamesNone};
+ghost use Rattle.meta_command_line.specs.Misuse.{IsNumberIn, AreNumbersIn, IsMisuseAfter, IsMisuse, AreTaken, IsFirstNamed, NamesNone};
 ghost use Rattle.meta_command_line.specs.declared.manual.CommandForm.{CommandForm as spec_CommandForm};
 ghost use Rattle.meta_command_line.specs.declared.misuse.Misuse.{Misuse as spec_Misuse};
 
@@ -49,9 +49,9 @@ fn named<'c>(commands: &'c [CommandForm], name: &Text) -> Option<&'c CommandForm
 }
 
 /// Why the words after a name aren't its numbers, if they aren't.
-fn behind(numbers: &[Range], words: &[Text]) -> Option<Misuse>
+fn after(numbers: &[Range], words: &[Text]) -> Option<Misuse>
     ensures none { IfNone result (AreNumbersIn numbers.now words.now) }
-    ensures some { IfSome result (IsMisuseBehind numbers.now words.now) }
+    ensures some { IfSome result (IsMisuseAfter numbers.now words.now) }
 {
     for k in 0..numbers.len() {
         if k >= words.len() {
@@ -74,7 +74,7 @@ impl Misuse {
         match words {
             [] => Some(Misuse::NoWord),
             [name, words @ ..] => match named(commands, name) {
-                Some(command) => behind(command.numbers, words),
+                Some(command) => after(command.numbers, words),
                 None => Some(Misuse::NoCommand),
             },
         }

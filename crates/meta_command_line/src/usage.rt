@@ -1,7 +1,7 @@
 ghost use Rattle.std.specs.Prelude.{◌≡◌, ◌↔◌, ◌<◌, ◌≤◌, ◌++◌, IfOk, IsTrue, OnOk, string_bytes};
 ghost use Rattle.std.specs.Char.Escape.{escape_ascii};
 ghost use Rattle.meta_command_line.specs.Misuse.{AreTaken};
-ghost use Rattle.meta_command_line.specs.Usage.{IsPlain, escaped, IsShown, IsShownAt, ArePlainlyNamed, IsWrongBehind, TellsWrong};
+ghost use Rattle.meta_command_line.specs.Usage.{IsPlain, escaped, IsShown, IsShownAt, ArePlainlyNamed, IsWrongAfter, TellsWrong};
 ghost use Rattle.meta_command_line.specs.Usage.{commands_text, IsUsageLine};
 
 use super::manual::CommandForm;
@@ -87,16 +87,16 @@ fn shown_at(alloc: Global, words: &[Text], place: usize) -> Result<String, Alloc
     }
 }
 
-fn wrong_behind(
+fn wrong_after(
     alloc: Global,
     name: &Text,
-    behind: &[Text],
+    after: &[Text],
     misuse: Misuse,
 ) -> Result<String, AllocError>
-    ensures { IfOk result (λ text. IsWrongBehind name.now behind.now misuse (string_bytes text)) }
+    ensures { IfOk result (λ text. IsWrongAfter name.now after.now misuse (string_bytes text)) }
 {
     let name = shown(alloc, name)?;
-    let word = shown_at(alloc, behind, misuse.place())?;
+    let word = shown_at(alloc, after, misuse.place())?;
     match misuse {
         Misuse::NoWord | Misuse::NoCommand => format!(in alloc; "no command {name}"),
         Misuse::NoNumber(_) => format!(in alloc; "{word} is no number for {name}"),
@@ -110,7 +110,7 @@ fn wrong(alloc: Global, words: &[Text], misuse: Misuse) -> Result<String, AllocE
 {
     match words {
         [] => String::from_str(alloc, "no command"),
-        [name, behind @ ..] => wrong_behind(alloc, name, behind, misuse),
+        [name, after @ ..] => wrong_after(alloc, name, after, misuse),
     }
 }
 

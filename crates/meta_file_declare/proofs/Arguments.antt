@@ -13,7 +13,7 @@ use Rattle.meta_build.specs.AllDeclared.{Declared}
 use Rattle.meta_file_types.specs.declared.refused.Reason.TheVariants.{NoEntry}
 use Rattle.meta_file_declare.specs.Texts.{names_in}
 use Rattle.meta_file_declare.specs.Named.{Known, meant}
-use Rattle.meta_file_declare.specs.Wrong.{wrong_if, wrong_with, known_behind}
+use Rattle.meta_file_declare.specs.Wrong.{wrong_if, wrong_with, known_after}
 use Rattle.meta_file_declare.specs.Said.{preset_of}
 use Rattle.meta_file_declare.specs.AllItems.{Declares}
 use Rattle.meta_file_declare.proofs.Folding.{groups_right}
@@ -42,7 +42,7 @@ right_names true (Some n) h = cc
 right_names false o h = cc
 
 pub arguments_found : (items : List Item) (d : Declared) (k : ℕ) (i : PresetItem) (known : Known) → Declares items d
-    → slice_get items k ≡ Some (item.Preset i) → known_behind (take k items) ≡ Some known
+    → slice_get items k ≡ Some (item.Preset i) → known_after (take k items) ≡ Some known
     → map (λ (a : PresetType). Some a) (preset_of known i).args ≡ map (meant known) (names_in i.args)
 arguments_found items d k i known s at knows =
     let none = groups_right items k (item.Preset i) at (s.right k (slice_get_within items k (item.Preset i) at)) in

@@ -53,18 +53,18 @@ setting_places s i items b e =
 
 -- the n-th setting is declared by an item
 record IsSetFrom (s : ℕ) (items : List Item) (n : ℕ) (d : SettingDeclaration) : Type 0 where
-  pub behind : ℕ
+  pub after : ℕ
   pub item : Item
-  pub place : slice_get (places_from is_setting s items) n ≡ Some (s + behind)
-  pub at : slice_get items behind ≡ Some item
+  pub place : slice_get (places_from is_setting s items) n ≡ Some (s + after)
+  pub at : slice_get items after ≡ Some item
   pub says : setting_of item ≡ Some d
 
 set_later : (s : ℕ) (i : Item) (items : List Item) (n m : ℕ) (d : SettingDeclaration) → IsSetFrom (s + 1) items n d
     → slice_get (places_from is_setting s (i ∷ items)) m ≡ slice_get (places_from is_setting (s + 1) items) n → IsSetFrom s (i ∷ items) m d
 set_later s i items n m d h same =
-    let next : (s + 1) + h.behind ≡ s + suc h.behind = omega arith in
+    let next : (s + 1) + h.after ≡ s + suc h.after = omega arith in
     record {
-      behind = suc h.behind;
+      after = suc h.after;
       item = h.item;
       place = same ∙ h.place ∙ ap (λ (k : ℕ). Some k) next;
       at = h.at;
@@ -79,7 +79,7 @@ set_step s i items d None n e rest h =
 set_step s i items d (Some x) zero e rest h =
     let here : s ≡ s + 0 = omega arith in
     record {
-      behind = 0;
+      after = 0;
       item = i;
       place = ap (λ (ks : List ℕ). slice_get ks 0) (setting_places s i items true (a_setting i x e)) ∙ ap (λ (k : ℕ). Some k) here;
       at = refl;
@@ -134,24 +134,24 @@ no_preset known (item.Preset i) e = absurd (cc)
 
 -- the n-th preset is declared by an item after these
 record IsPresetFrom (s : ℕ) (above items : List Item) (n : ℕ) (p : PresetDeclaration) : Type 0 where
-  pub behind : ℕ
+  pub after : ℕ
   pub preset : PresetItem
-  pub place : slice_get (places_from is_preset s items) n ≡ Some (s + behind)
-  pub at : slice_get items behind ≡ Some (item.Preset preset)
-  pub says : p ≡ preset_of (known_below (above ++ take behind items)) preset
+  pub place : slice_get (places_from is_preset s items) n ≡ Some (s + after)
+  pub at : slice_get items after ≡ Some (item.Preset preset)
+  pub says : p ≡ preset_of (known_below (above ++ take after items)) preset
 
 preset_later : (s : ℕ) (above : List Item) (i : Item) (items : List Item) (n m : ℕ) (p : PresetDeclaration)
     → IsPresetFrom (s + 1) (above ++ i ∷ []) items n p
     → slice_get (places_from is_preset s (i ∷ items)) m ≡ slice_get (places_from is_preset (s + 1) items) n
     → IsPresetFrom s above (i ∷ items) m p
 preset_later s above i items n m p h same =
-    let next : (s + 1) + h.behind ≡ s + suc h.behind = omega arith in
+    let next : (s + 1) + h.after ≡ s + suc h.after = omega arith in
     record {
-      behind = suc h.behind;
+      after = suc h.after;
       preset = h.preset;
       place = same ∙ h.place ∙ ap (λ (k : ℕ). Some k) next;
       at = h.at;
-      says = h.says ∙ ap (λ (es : List Item). preset_of (known_below es) h.preset) (append_assoc above (i ∷ []) (take h.behind items));
+      says = h.says ∙ ap (λ (es : List Item). preset_of (known_below es) h.preset) (append_assoc above (i ∷ []) (take h.after items));
     }
 
 -- the first item is a preset
@@ -163,7 +163,7 @@ preset_here s above i items p zero rest h =
     let here : s ≡ s + 0 = omega arith in
     let this : preset_of (known_below above) i ≡ p = cc in
     record {
-      behind = 0;
+      after = 0;
       preset = i;
       place = ap (λ (k : ℕ). Some k) here;
       at = refl;
@@ -234,16 +234,16 @@ setting_item : (name : Name) (items : List Item) (e : ℕ) (x : Entry)
 setting_item name items e x h =
     let declared = get_mapped setting_entry (filter_map setting_of items) e x h in
     let from = set_from 0 items e declared.0 declared.1 in
-    let same : 0 + from.behind ≡ from.behind = omega arith in
-    let place : slice_get (places_of is_setting items) e ≡ Some from.behind = from.place ∙ ap (λ (k : ℕ). Some k) same in
+    let same : 0 + from.after ≡ from.after = omega arith in
+    let place : slice_get (places_of is_setting items) e ≡ Some from.after = from.place ∙ ap (λ (k : ℕ). Some k) same in
     record {
-      place = from.behind;
+      place = from.after;
       item = from.item;
-      is_place = get_stays (places_of is_setting items) (places_of is_preset items) e from.behind place;
+      is_place = get_stays (places_of is_setting items) (places_of is_preset items) e from.after place;
       at = from.at;
-      number = setting_number (group_with name items) (take from.behind items) from.item declared.0 from.says
-          ∙ ap (λ (n : ℕ). Some n) (nth_is is_setting items e from.behind place).above;
-      says = setting_is (take from.behind items) from.item declared.0 from.says ∙ ap (λ (y : Entry). Some y) declared.2;
+      number = setting_number (group_with name items) (take from.after items) from.item declared.0 from.says
+          ∙ ap (λ (n : ℕ). Some n) (nth_is is_setting items e from.after place).above;
+      says = setting_is (take from.after items) from.item declared.0 from.says ∙ ap (λ (y : Entry). Some y) declared.2;
     }
 
 preset_item : (name : Name) (items : List Item) (j : ℕ) (x : Entry) → slice_get (map preset_entry (presets_below [] items)) j ≡ Some x
@@ -251,15 +251,15 @@ preset_item : (name : Name) (items : List Item) (j : ℕ) (x : Entry) → slice_
 preset_item name items j x h e is =
     let declared = get_mapped preset_entry (presets_below [] items) j x h in
     let from = preset_from 0 [] items j declared.0 declared.1 in
-    let same : 0 + from.behind ≡ from.behind = omega arith in
-    let place : slice_get (places_of is_preset items) j ≡ Some from.behind = from.place ∙ ap (λ (k : ℕ). Some k) same in
-    let behind : e ≡ length (places_of is_setting items) + j = is ∙ ap (λ (n : ℕ). n + j) (sym (settings_count 0 items)) in
+    let same : 0 + from.after ≡ from.after = omega arith in
+    let place : slice_get (places_of is_preset items) j ≡ Some from.after = from.place ∙ ap (λ (k : ℕ). Some k) same in
+    let after : e ≡ length (places_of is_setting items) + j = is ∙ ap (λ (n : ℕ). n + j) (sym (settings_count 0 items)) in
     record {
-      place = from.behind;
+      place = from.after;
       item = item.Preset from.preset;
-      is_place = ap (slice_get (entry_places items)) behind ∙ get_right (places_of is_setting items) (places_of is_preset items) j ∙ place;
+      is_place = ap (slice_get (entry_places items)) after ∙ get_right (places_of is_setting items) (places_of is_preset items) j ∙ place;
       at = from.at;
-      number = ap (λ (n : ℕ). Some (length (filter_map setting_of items) + n)) (nth_is is_preset items j from.behind place).above
+      number = ap (λ (n : ℕ). Some (length (filter_map setting_of items) + n)) (nth_is is_preset items j from.after place).above
           ∙ ap (λ (n : ℕ). Some n) (sym is);
       says = ap (λ (p : PresetDeclaration). Some (preset_entry p)) (sym from.says) ∙ ap (λ (y : Entry). Some y) declared.2;
     }

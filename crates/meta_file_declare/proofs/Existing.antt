@@ -31,7 +31,7 @@ use Rattle.meta_file_types.specs.Said.{Said, with_meant}
 use Rattle.meta_file_types.specs.Registered.{Registered, Extends}
 use Rattle.meta_file_types.proofs.Staying.{extends_more, operand_stays as operand_kind_stays}
 use Rattle.meta_file_types.proofs.Existing.{IsThere, sense_stays, Serves, Grows, grows_not, grows_by, mentions_type}
-use Rattle.meta_file_types.proofs.ExistingItems.{ok_behind, ok_unless, type_there, item_grows}
+use Rattle.meta_file_types.proofs.ExistingItems.{ok_after, ok_unless, type_there, item_grows}
 use Rattle.meta_file_types.proofs.ExistingOperands.{IsOperandThere, named_there, operand_grows}
 use Rattle.meta_file_types.specs.declared.refused.Reason.TheVariants.{TwoDesignated, UnknownFormat, SecondTwice}
 use Rattle.meta_file_types.specs.declared.given.GivenKind.{GivenKind}
@@ -60,8 +60,8 @@ ok_each : {A B : Type 0} (f : ℕ → A → Result B Reason) (P : B → Type 0) 
     → IfOk (each_from f k xs) (All P)
 ok_each {A} {B} f P h k [] = All-nil P
 ok_each {A} {B} f P h k (x ∷ xs) =
-    ok_behind (f k x) (λ y. each_from f (k + 1) xs >>= λ ys. Ok (y ∷ ys)) P (All P) (h k x)
-    (λ y p. ok_behind (each_from f (k + 1) xs) (λ ys. Ok (y ∷ ys)) (All P) (All P) (ok_each f P h (k + 1) xs)
+    ok_after (f k x) (λ y. each_from f (k + 1) xs >>= λ ys. Ok (y ∷ ys)) P (All P) (h k x)
+    (λ y p. ok_after (each_from f (k + 1) xs) (λ ys. Ok (y ∷ ys)) (All P) (All P) (ok_each f P h (k + 1) xs)
     (λ ys ps. All-cons P y ys p ps))
 
 -- ---- formats
@@ -133,7 +133,7 @@ module _ (r : Registered) (roots : List MeantRoot) (entries : List Entry) (h : S
   format_there formats i =
       ok_unless (wrong_texts (format_texts i)) _ IsFormatThere
       (ok_unless (declared_above i.word (format_named formats i.word)) _ IsFormatThere
-      (ok_behind (slots_of entries i.slots) (λ slots. Ok (format_with i slots)) (All (IsSlotThere r)) IsFormatThere
+      (ok_after (slots_of entries i.slots) (λ slots. Ok (format_with i slots)) (All (IsSlotThere r)) IsFormatThere
       (ok_each (slot_at entries i.slots) (IsSlotThere r) (slot_there i.slots) 0 i.slots)
       (λ slots there. format_made (format_with i slots) there)))
 
@@ -170,12 +170,12 @@ operands_grow r roots entries h k (o ∷ os) =
         serves = more.grows.serves;
         extends = extends_more r now new first.grows.extends more.grows.extends;
       };
-      there = ok_behind (with_place entries k o) (λ y. each_from (with_place entries) (k + 1) os >>= λ ys. Ok (y ∷ ys))
+      there = ok_after (with_place entries k o) (λ y. each_from (with_place entries) (k + 1) os >>= λ ys. Ok (y ∷ ys))
           (λ y. (p : Made) × IsOperandIn new y p) (AreThere new)
-          (ok_behind (operand_of entries o.what) (λ what. Ok (operand_with o what)) (IsOperandThere now)
+          (ok_after (operand_of entries o.what) (λ what. Ok (operand_with o what)) (IsOperandThere now)
           (λ y. (p : Made) × IsOperandIn new y p) first.there
           (λ what kind. operand_made new o what (kind.0, operand_kind_stays now new what kind.0 more.grows.extends kind.1)))
-          (λ y p. ok_behind (each_from (with_place entries) (k + 1) os) (λ ys. Ok (y ∷ ys)) (AreThere new) (AreThere new) more.there
+          (λ y p. ok_after (each_from (with_place entries) (k + 1) os) (λ ys. Ok (y ∷ ys)) (AreThere new) (AreThere new) more.there
           (λ ys ps. (p.0 ∷ ps.0, (p.1, ps.1))));
     }
 
@@ -219,12 +219,12 @@ second_there : (r : Registered) (entries : List Entry) (ss : List (ℕ × TypeEx
 second_there r entries [] h = (None, tt)
 second_there r entries (s ∷ []) h =
     let P : MeantType → Type 0 = λ m. IsThere r (TypeSense m) in
-    ok_behind (type_of entries s.1) (λ m. Ok (Some m)) P (λ m. (n : Option ℕ) × IsSecondIn r m n)
+    ok_after (type_of entries s.1) (λ m. Ok (Some m)) P (λ m. (n : Option ℕ) × IsSecondIn r m n)
     (All-head (IsSecondThere r entries) s [] h)
     (λ m is. (Some is.0, is.1))
 second_there r entries (s ∷ (t ∷ more)) h =
     let P : MeantType → Type 0 = λ m. IsThere r (TypeSense m) in
-    ok_behind (type_of entries s.1) (λ m. Err (SecondTwice t.0)) P (λ m. (n : Option ℕ) × IsSecondIn r m n)
+    ok_after (type_of entries s.1) (λ m. Err (SecondTwice t.0)) P (λ m. (n : Option ℕ) × IsSecondIn r m n)
     (All-head (IsSecondThere r entries) s (t ∷ more) h)
     (λ m is. tt)
 
@@ -244,25 +244,25 @@ module _ (vars : List _) (s : Said) (h : Serves (record { vars = vars; symbols =
   unfolding inst_of inst_in
   inst_grows =
       let ins = operands_grow start s.roots s.words h 0 i.inputs in
-      let behind : Registered = record { vars = ins.grows.vars; symbols = with_operands s.words s.symbols i.inputs } in
-      let outs = operands_grow behind s.roots s.words ins.grows.serves 0 i.outputs in
-      let beyond : Registered = record { vars = outs.grows.vars; symbols = with_operands s.words behind.symbols i.outputs } in
+      let with_inputs : Registered = record { vars = ins.grows.vars; symbols = with_operands s.words s.symbols i.inputs } in
+      let outs = operands_grow with_inputs s.roots s.words ins.grows.serves 0 i.outputs in
+      let beyond : Registered = record { vars = outs.grows.vars; symbols = with_operands s.words with_inputs.symbols i.outputs } in
       let all = marks_grow beyond s.roots s.words outs.grows.serves 0 (marks_in i.marks) in
       let new : Registered = record { vars = all.grows.vars; symbols = with_seconds s.words beyond.symbols (marks_in i.marks) } in
-      let later : Extends behind new = extends_more behind beyond new outs.grows.extends all.grows.extends in
+      let later : Extends with_inputs new = extends_more with_inputs beyond new outs.grows.extends all.grows.extends in
       let P : MeantInst → Type 0 = λ m. (b : Builder) × IsBuilderIn new m b in
       record {
         grows = record {
           vars = all.grows.vars;
           serves = all.grows.serves;
-          extends = extends_more start behind new ins.grows.extends later;
+          extends = extends_more start with_inputs new ins.grows.extends later;
         };
         there = ok_unless (wrong_texts (inst_texts i)) _ P
-            (ok_behind (found_or (UnknownFormat i.format) (format_named formats i.format)) (λ f. inst_in s.words f.id i) (λ f. Unit {0}) P
+            (ok_after (found_or (UnknownFormat i.format) (format_named formats i.format)) (λ f. inst_in s.words f.id i) (λ f. Unit {0}) P
             (any (found_or (UnknownFormat i.format) (format_named formats i.format)))
-            (λ f u. ok_behind (operands_of s.words i.inputs) _ (AreThere behind) P ins.there
-            (λ inputs is. ok_behind (operands_of s.words i.outputs) _ (AreThere beyond) P outs.there
-            (λ outputs os. ok_behind (second_of s.words (marks_in i.marks)) _ (λ m. (n : Option ℕ) × IsSecondIn new m n) P
+            (λ f u. ok_after (operands_of s.words i.inputs) _ (AreThere with_inputs) P ins.there
+            (λ inputs is. ok_after (operands_of s.words i.outputs) _ (AreThere beyond) P outs.there
+            (λ outputs os. ok_after (second_of s.words (marks_in i.marks)) _ (λ m. (n : Option ℕ) × IsSecondIn new m n) P
             (second_there new s.words (seconds_from 0 (marks_in i.marks)) all.there)
             (λ second n. (
               record {
@@ -280,7 +280,7 @@ module _ (vars : List _) (s : Said) (h : Serves (record { vars = vars; symbols =
                 format = refl;
                 inputs_set = refl;
                 outputs_set = refl;
-                inputs = operands_stay behind new later inputs is.0 is.1;
+                inputs = operands_stay with_inputs new later inputs is.0 is.1;
                 outputs = operands_stay beyond new all.grows.extends outputs os.0 os.1;
                 marks = refl;
                 second = n.1;

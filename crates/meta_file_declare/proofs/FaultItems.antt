@@ -19,11 +19,11 @@ use Rattle.meta_inst.specs.InstructionFaults.{DerivationRule}
 use Rattle.meta_inst.specs.InstructionFaults.{CountRule, MethodRule, Breaks}
 use Rattle.meta_inst.specs.Faults.{Position, OfOpcodes, OfInstruction, OfFormat, OfTypeSets, FormatRule, FormatNameRule, BlocksRule}
 use Rattle.meta_inst.specs.Faults.{ClashRule}
-use Rattle.meta_inst.specs.Faults.{FormatBreaks, SharesNameAt, HasTooManyTypeSets, ShowsAt}
+use Rattle.meta_inst.specs.Faults.{FormatBreaks, SharesNameAt, HasTooManyTypeSets, HasFaultAt}
 use Rattle.meta_settings.specs.GroupDeclaration.{GroupDeclaration, Entry as AnEntry, entries_of}
 use Rattle.meta_settings.specs.GroupFaults.{EntryRule, EntryNameRule, EntryDuplicateRule, EnumRule, PresetRule, GroupPosition, OfGroupName}
-use Rattle.meta_settings.specs.GroupFaults.{OfEntry, OfCounts, BreaksRule, GroupShowsAt}
-use Rattle.meta_build.specs.AllDeclared.{Declared, ShowsFirst}
+use Rattle.meta_settings.specs.GroupFaults.{OfEntry, OfCounts, BreaksRule, GroupHasFaultAt}
+use Rattle.meta_build.specs.AllDeclared.{Declared, HasFirstFault}
 use Rattle.meta_file_syntax.specs.declared.items.Item.{Item}
 use Rattle.meta_file_declare.specs.Registered.{IsFormatIn, IsBuilderIn}
 use Rattle.meta_file_declare.specs.SaidOfInsts.{said}
@@ -90,7 +90,7 @@ module _ (d : Declared) (e : DefinitionError) where
   entry_breaks g k group x EnumRule at has h = names d e _ (Entry g k) h.0 refl (group, at, x, has)
   entry_breaks g k group x PresetRule at has h = names d e _ (Entry g k) h.0 refl (group, at, x, has)
 
-  group_shows : (g : ℕ) (group : GroupDeclaration) (p : GroupPosition) → slice_get d.groups g ≡ Some group → GroupShowsAt group g p e
+  group_shows : (g : ℕ) (group : GroupDeclaration) (p : GroupPosition) → slice_get d.groups g ≡ Some group → GroupHasFaultAt group g p e
       → Names d e
   group_shows g group OfGroupName at h = names d e _ (Group g) h.0 refl (group, at)
   group_shows g group (OfEntry k rule) at h = entry_breaks g k group h.0 rule at h.1 h.2
@@ -110,13 +110,13 @@ module _ (d : Declared) (e : DefinitionError) where
       names d e _ (Instruction (length d.set.instructions)) is refl
       (length d.set.instructions - 1, omega (arith, some), last.0, last.1)
 
-  set_shows : (p : Position) → ShowsAt d.set p e → Names d e
+  set_shows : (p : Position) → HasFaultAt d.set p e → Names d e
   set_shows OfOpcodes h = too_many h.0 h.1
   set_shows (OfInstruction k rule) h = ⊎_elim (λ b. inst_breaks k b.builder rule b.at b.breaks) (λ s. inst_shares k rule s) h
   set_shows (OfFormat k rule) h = format_breaks k h.format rule h.breaks
   set_shows OfTypeSets h = too_many_sets h.0 h.1 h.2
 
-  shows : ShowsFirst d e → Names d e
+  shows : HasFirstFault d e → Names d e
   shows h = ⊎_elim (λ s. set_shows s.position s.shows) (λ g. group_shows g.1.place g.1.group g.1.first.position g.1.at g.1.first.shows) h
 
 -- ---- and an item declares it
@@ -194,7 +194,7 @@ module _ (items : List Item) (d : Declared) (declares : Declares items d) where
       sym (AllZip-long (IsInstAt items) (places_of is_inst items) (said items).insts.insts (all_insts items declares.right))
       ∙ sym (AllZip-long (IsBuilderIn (registry_of items d.set)) (said items).insts.insts d.set.instructions declares.set.instructions)
 
-pub fault_has_item : (items : List Item) (d : Declared) (e : DefinitionError) → Declares items d → ShowsFirst d e → HasItsItem items d e
+pub fault_has_item : (items : List Item) (d : Declared) (e : DefinitionError) → Declares items d → HasFirstFault d e → HasItsItem items d e
 fault_has_item items d e h s =
     let it = shows d e s in
     let found = item_there items d h it.place it.there in

@@ -39,7 +39,7 @@ said_more items k i at =
 -- ---- what is wrong with it
 
 pub wrong_here : (items : List Item) (k : ℕ) (i : Item) → slice_get items k ≡ Some i
-    → wrong_in items k ≡ wrong_with (said (take k items)) (groups.known_behind (take k items)) i
+    → wrong_in items k ≡ wrong_with (said (take k items)) (groups.known_after (take k items)) i
 wrong_here items k i at = ap (option_and_then (wrong_below (take k items))) at
 
 -- a format or an instruction isn't about types and kinds
@@ -70,7 +70,7 @@ insts_right items k i at h =
 
 -- nor with a group or an entry
 pub groups_right : (items : List Item) (k : ℕ) (i : Item) → slice_get items k ≡ Some i → wrong_in items k ≡ None
-    → groups.wrong_with (groups.known_behind (take k items)) i ≡ None
+    → groups.wrong_with (groups.known_after (take k items)) i ≡ None
 groups_right items k i at h =
     (or_none (wrong_of_set (said (take k items)) i) _ (sym (wrong_here items k i at) ∙ h)).1
 
@@ -96,11 +96,11 @@ set_right a place i none h =
 
 -- with a group or an entry, where nothing else is wrong
 pub group_wrong : (items : List Item) (k : ℕ) (i : Item) → slice_get items k ≡ Some i → wrong_of_set (said (take k items)) i ≡ None
-    → wrong_in items k ≡ groups.wrong_with (groups.known_behind (take k items)) i
+    → wrong_in items k ≡ groups.wrong_with (groups.known_after (take k items)) i
 group_wrong items k i at h =
-    wrong_here items k i at ∙ ap (λ (o : Option Reason). option_or o (groups.wrong_with (groups.known_behind (take k items)) i)) h
+    wrong_here items k i at ∙ ap (λ (o : Option Reason). option_or o (groups.wrong_with (groups.known_after (take k items)) i)) h
 
 pub set_wrong : (items : List Item) (k : ℕ) (i : Item) (reason : Reason) → slice_get items k ≡ Some i
     → wrong_of_set (said (take k items)) i ≡ Some reason → wrong_in items k ≡ Some reason
 set_wrong items k i reason at h =
-    wrong_here items k i at ∙ ap (λ (o : Option Reason). option_or o (groups.wrong_with (groups.known_behind (take k items)) i)) h
+    wrong_here items k i at ∙ ap (λ (o : Option Reason). option_or o (groups.wrong_with (groups.known_after (take k items)) i)) h

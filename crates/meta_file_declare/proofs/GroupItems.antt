@@ -12,7 +12,7 @@ use Rattle.meta_settings.specs.GroupDeclaration.{GroupDeclaration}
 use Rattle.meta_file_declare.specs.Places.{is_group, places_from, place_of_group, before_group}
 use Rattle.meta_file_declare.specs.Wrong.{last_entries}
 use Rattle.meta_file_declare.specs.Said.{group_with, groups_of}
-use Rattle.meta_file_declare.proofs.Growing.{groups_behind}
+use Rattle.meta_file_declare.proofs.Growing.{no_group_more}
 
 pub group_named : (i : Item) → is_group i ≡ true → (n : Name) × (i ≡ item.Group n)
 group_named (item.Group n) e = (n, refl)
@@ -30,20 +30,20 @@ group_named (item.Preset i) e = absurd (cc)
 
 -- where the first item stands at place s
 record OpensFrom (s : ℕ) (items : List Item) (g : ℕ) (group : GroupDeclaration) : Type 0 where
-  pub behind : ℕ
+  pub after : ℕ
   pub name : Name
-  pub place : slice_get (places_from is_group s items) g ≡ Some (s + behind)
-  pub at : slice_get items behind ≡ Some (item.Group name)
-  pub is : group ≡ group_with name (before_group (drop (behind + 1) items))
+  pub place : slice_get (places_from is_group s items) g ≡ Some (s + after)
+  pub at : slice_get items after ≡ Some (item.Group name)
+  pub is : group ≡ group_with name (before_group (drop (after + 1) items))
 
 -- an item more in front
 opens_later : (s : ℕ) (i : Item) (items : List Item) (g : ℕ) (group : GroupDeclaration) (h : OpensFrom (s + 1) items g group) (n : ℕ)
     → slice_get (places_from is_group s (i ∷ items)) n ≡ slice_get (places_from is_group (s + 1) items) g → OpensFrom s (i ∷ items) n group
 opens_later s i items g group h n same =
-    let next : (s + 1) + h.behind ≡ s + suc h.behind = omega arith in
-    let one : suc h.behind + 1 ≡ suc (h.behind + 1) = omega arith in
+    let next : (s + 1) + h.after ≡ s + suc h.after = omega arith in
+    let one : suc h.after + 1 ≡ suc (h.after + 1) = omega arith in
     record {
-      behind = suc h.behind;
+      after = suc h.after;
       name = h.name;
       place = same ∙ h.place ∙ ap (λ (k : ℕ). Some k) next;
       at = h.at;
@@ -54,7 +54,7 @@ opens_first : (s : ℕ) (n : Name) (items : List Item) (group : GroupDeclaration
     → OpensFrom s (item.Group n ∷ items) 0 group
 opens_first s n items group e =
     let here : s ≡ s + 0 = omega arith in
-    record { behind = 0; name = n; place = ap (λ (k : ℕ). Some k) here; at = refl; is = sym e }
+    record { after = 0; name = n; place = ap (λ (k : ℕ). Some k) here; at = refl; is = sym e }
 
 opens_step : (s : ℕ) (i : Item) (items : List Item) (group : GroupDeclaration) (b : Bool) (g : ℕ) → is_group i ≡ b
     → ((m : ℕ) → slice_get (groups_of items) m ≡ Some group → OpensFrom (s + 1) items m group)
@@ -68,7 +68,7 @@ opens_step s i items group true g e rest h =
     named n zero h = opens_first s n items group cc
     named n (suc m) h = opens_later s (item.Group n) items m group (rest m h) (suc m) refl
 opens_step s i items group false g e rest h =
-    opens_later s i items g group (rest g (ap (λ (gs : List GroupDeclaration). slice_get gs g) (sym (groups_behind i items e)) ∙ h)) g
+    opens_later s i items g group (rest g (ap (λ (gs : List GroupDeclaration). slice_get gs g) (sym (no_group_more i items e)) ∙ h)) g
     (ap (λ (b : Bool). slice_get (cond b (s ∷ places_from is_group (s + 1) items) (places_from is_group (s + 1) items)) g) e)
 
 opens_from : (s : ℕ) (items : List Item) (g : ℕ) (group : GroupDeclaration) → slice_get (groups_of items) g ≡ Some group
@@ -87,9 +87,9 @@ pub record IsOpened (items : List Item) (g : ℕ) (group : GroupDeclaration) : T
 pub opened : (items : List Item) (g : ℕ) (group : GroupDeclaration) → slice_get (groups_of items) g ≡ Some group → IsOpened items g group
 opened items g group h =
     let from = opens_from 0 items g group h in
-    let same : 0 + from.behind ≡ from.behind = omega arith in
+    let same : 0 + from.after ≡ from.after = omega arith in
     record {
-      place = from.behind;
+      place = from.after;
       name = from.name;
       is_place = from.place ∙ ap (λ (k : ℕ). Some k) same;
       at = from.at;
@@ -123,19 +123,19 @@ none_before [] (suc j) l = (refl, refl)
 none_before (i ∷ items) (suc j) l = none_step i items j (is_group i) refl (λ m. none_before items j m) l
 
 -- the entries of the last group
-pub last_behind : (above : List Item) (i : Item) (entries : List Item) → is_group i ≡ true → last_entries entries ≡ None
+pub last_after : (above : List Item) (i : Item) (entries : List Item) → is_group i ≡ true → last_entries entries ≡ None
     → last_entries (above ++ i ∷ entries) ≡ Some entries
-last_behind [] i entries e none =
+last_after [] i entries e none =
     ap (λ (o : Option (List Item)). option_or o (if is_group i then Some entries else None)) none
     ∙ ap (λ (b : Bool). if b then Some entries else None) e
-last_behind (x ∷ above) i entries e none =
+last_after (x ∷ above) i entries e none =
     ap (λ (o : Option (List Item)). option_or o (if is_group x then Some (above ++ i ∷ entries) else None))
-    (last_behind above i entries e none)
+    (last_after above i entries e none)
 
 -- how many groups there are then
-pub count_behind : (above : List Item) (i : Item) (entries : List Item) → is_group i ≡ true → count_by is_group entries ≡ 0
+pub count_after : (above : List Item) (i : Item) (entries : List Item) → is_group i ≡ true → count_by is_group entries ≡ 0
     → count_by is_group (above ++ i ∷ entries) ≡ count_by is_group above + 1
-count_behind above i entries e none =
+count_after above i entries e none =
     let one : count_by is_group (i ∷ entries) ≡ 1 =
     sum_by-cons (λ (x : Item). cond (is_group x) 1 0) i entries ∙ ap (λ (b : Bool). cond b 1 0 + count_by is_group entries) e
     ∙ ap (λ (n : ℕ). 1 + n) none in

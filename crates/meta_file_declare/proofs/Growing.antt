@@ -200,42 +200,42 @@ continued_more g above (item.Preset i) more e h =
 one_taken : (n : ℕ) (i : Item) (is : List Item) → take (1 + n) (i ∷ is) ≡ i ∷ take n is
 one_taken n i is = let e : 1 + n ≡ suc n = omega arith in rw e
 
-behind_entry : (i : Item) (is : List Item) → is_group i ≡ false → before_group (i ∷ is) ≡ i ∷ before_group is
-behind_entry (item.Group n) is e = cc
-behind_entry (item.Type i) is e = one_taken (position_or_len is_group is) (item.Type i) is
-behind_entry (item.Alias i) is e = one_taken (position_or_len is_group is) (item.Alias i) is
-behind_entry (item.Kind i) is e = one_taken (position_or_len is_group is) (item.Kind i) is
-behind_entry (item.Format i) is e = one_taken (position_or_len is_group is) (item.Format i) is
-behind_entry (item.Inst i) is e = one_taken (position_or_len is_group is) (item.Inst i) is
-behind_entry (item.Bool i) is e = one_taken (position_or_len is_group is) (item.Bool i) is
-behind_entry (item.Num i) is e = one_taken (position_or_len is_group is) (item.Num i) is
-behind_entry (item.Enum i) is e = one_taken (position_or_len is_group is) (item.Enum i) is
-behind_entry (item.Preset i) is e = one_taken (position_or_len is_group is) (item.Preset i) is
+after_entry : (i : Item) (is : List Item) → is_group i ≡ false → before_group (i ∷ is) ≡ i ∷ before_group is
+after_entry (item.Group n) is e = cc
+after_entry (item.Type i) is e = one_taken (position_or_len is_group is) (item.Type i) is
+after_entry (item.Alias i) is e = one_taken (position_or_len is_group is) (item.Alias i) is
+after_entry (item.Kind i) is e = one_taken (position_or_len is_group is) (item.Kind i) is
+after_entry (item.Format i) is e = one_taken (position_or_len is_group is) (item.Format i) is
+after_entry (item.Inst i) is e = one_taken (position_or_len is_group is) (item.Inst i) is
+after_entry (item.Bool i) is e = one_taken (position_or_len is_group is) (item.Bool i) is
+after_entry (item.Num i) is e = one_taken (position_or_len is_group is) (item.Num i) is
+after_entry (item.Enum i) is e = one_taken (position_or_len is_group is) (item.Enum i) is
+after_entry (item.Preset i) is e = one_taken (position_or_len is_group is) (item.Preset i) is
 
-pub groups_behind : (i : Item) (is : List Item) → is_group i ≡ false → groups_of (i ∷ is) ≡ groups_of is
-groups_behind (item.Group n) is e = cc
-groups_behind (item.Type i) is e = refl
-groups_behind (item.Alias i) is e = refl
-groups_behind (item.Kind i) is e = refl
-groups_behind (item.Format i) is e = refl
-groups_behind (item.Inst i) is e = refl
-groups_behind (item.Bool i) is e = refl
-groups_behind (item.Num i) is e = refl
-groups_behind (item.Enum i) is e = refl
-groups_behind (item.Preset i) is e = refl
+pub no_group_more : (i : Item) (is : List Item) → is_group i ≡ false → groups_of (i ∷ is) ≡ groups_of is
+no_group_more (item.Group n) is e = cc
+no_group_more (item.Type i) is e = refl
+no_group_more (item.Alias i) is e = refl
+no_group_more (item.Kind i) is e = refl
+no_group_more (item.Format i) is e = refl
+no_group_more (item.Inst i) is e = refl
+no_group_more (item.Bool i) is e = refl
+no_group_more (item.Num i) is e = refl
+no_group_more (item.Enum i) is e = refl
+no_group_more (item.Preset i) is e = refl
 
 -- an entry comes to the group that is open
 entry_step : (done : List GroupDeclaration) (g : Option GroupDeclaration) (above : Option (List Item)) (i : Item) (rest : List Item)
     → is_group i ≡ false → AreKnown g above
     → resumed done (option_map (λ (o : GroupDeclaration). with_item o i) g) (option_map (λ (es : List Item). es ++ i ∷ []) above) rest
     ≡ resumed done g above (i ∷ rest)
-entry_step done None above i rest e h = ap (λ (gs : List GroupDeclaration). done ++ gs) (sym (groups_behind i rest e))
+entry_step done None above i rest e h = ap (λ (gs : List GroupDeclaration). done ++ gs) (sym (no_group_more i rest e))
 entry_step done (Some g) None i rest e h = cc
 entry_step done (Some g) (Some es) i rest e h =
     let known : known_of g ≡ known_below es = cc in
     ap (λ (o : GroupDeclaration). done ++ o ∷ groups_of rest) (continued_more g es i (before_group rest) e known)
-    ∙ ap (λ (is : List Item). done ++ continued g es is ∷ groups_of rest) (sym (behind_entry i rest e))
-    ∙ ap (λ (gs : List GroupDeclaration). done ++ continued g es (before_group (i ∷ rest)) ∷ gs) (sym (groups_behind i rest e))
+    ∙ ap (λ (is : List Item). done ++ continued g es is ∷ groups_of rest) (sym (after_entry i rest e))
+    ∙ ap (λ (gs : List GroupDeclaration). done ++ continued g es (before_group (i ∷ rest)) ∷ gs) (sym (no_group_more i rest e))
 
 -- `group` closes the one that is open
 group_step : (done : List GroupDeclaration) (g : Option GroupDeclaration) (above : Option (List Item)) (n : Name) (rest : List Item)

@@ -16,22 +16,22 @@ pub record IsNth (is : Item → Bool) (items : List Item) (k n : ℕ) : Type 0 w
 module _ (is : Item → Bool) where
   -- the n-th of the places, where the first item stands at place s
   record IsPlaceOf (s : ℕ) (items : List Item) (n k : ℕ) : Type 0 where
-    pub behind : ℕ
-    pub place : k ≡ s + behind
-    pub nth : IsNth is items behind n
+    pub after : ℕ
+    pub place : k ≡ s + after
+    pub nth : IsNth is items after n
 
   later : (s : ℕ) (i : Item) (items : List Item) (n m k : ℕ) (b : Bool) → is i ≡ b → cond b 1 0 + n ≡ m → IsPlaceOf (s + 1) items n k
       → IsPlaceOf s (i ∷ items) m k
   later s i items n m k b e more h =
       record {
-        behind = suc h.behind;
+        after = suc h.after;
         place = omega (arith, h.place);
         nth = record {
           item = h.nth.item;
           at = h.nth.at;
           so = h.nth.so;
-          above = sum_by-cons (λ (x : Item). cond (is x) 1 0) i (take h.behind items)
-              ∙ ap (λ (c : Bool). cond c 1 0 + count_by is (take h.behind items)) e ∙ ap (λ (x : ℕ). cond b 1 0 + x) h.nth.above ∙ more;
+          above = sum_by-cons (λ (x : Item). cond (is x) 1 0) i (take h.after items)
+              ∙ ap (λ (c : Bool). cond c 1 0 + count_by is (take h.after items)) e ∙ ap (λ (x : ℕ). cond b 1 0 + x) h.nth.above ∙ more;
         };
       }
 
@@ -40,7 +40,7 @@ module _ (is : Item → Bool) where
       → slice_get (cond b (s ∷ places_from is (s + 1) items) (places_from is (s + 1) items)) n ≡ Some k → IsPlaceOf s (i ∷ items) n k
   step s i items k true zero e rest h =
       let first : s ≡ k = cc in
-      record { behind = 0; place = omega (arith, first); nth = record { item = i; at = refl; so = e; above = refl } }
+      record { after = 0; place = omega (arith, first); nth = record { item = i; at = refl; so = e; above = refl } }
   step s i items k true (suc m) e rest h = later s i items m (suc m) k true e (omega arith) (rest m h)
   step s i items k false n e rest h = later s i items n n k false e (omega arith) (rest n h)
 
@@ -51,8 +51,8 @@ module _ (is : Item → Bool) where
   pub nth_is : (items : List Item) (n k : ℕ) → slice_get (places_of is items) n ≡ Some k → IsNth is items k n
   nth_is items n k h =
       let found = place_is 0 items n k h in
-      let same : found.behind ≡ k = omega (arith, found.place) in
-      subst_nth found.behind k same found.nth
+      let same : found.after ≡ k = omega (arith, found.place) in
+      subst_nth found.after k same found.nth
     where
       subst_nth : (j k : ℕ) → j ≡ k → IsNth is items j n → IsNth is items k n
       subst_nth j k e h = record {

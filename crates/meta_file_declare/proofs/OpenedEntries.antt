@@ -7,12 +7,12 @@ use Rattle.meta_lists.proofs.Places.{get_taken, get_drop}
 use Rattle.meta_settings.specs.GroupDeclaration.{GroupDeclaration, Entry, entries_of}
 use Rattle.meta_file_syntax.specs.declared.items.Item.{Item}
 use Rattle.meta_file_syntax.specs.declared.items.Item.TheVariants as item
-use Rattle.meta_file_declare.specs.Places.{is_group, before_group, place_of_group, entry_behind, place_of_entry}
+use Rattle.meta_file_declare.specs.Places.{is_group, before_group, place_of_group, entry_after, place_of_entry}
 use Rattle.meta_file_declare.specs.Wrong.{last_entries}
 use Rattle.meta_file_declare.specs.Said.{groups_of, group_with}
 use Rattle.meta_file_declare.specs.Entries.{DeclaresGroup, DeclaresEntry}
 use Rattle.meta_file_declare.proofs.NthPlaces.{nth_is}
-use Rattle.meta_file_declare.proofs.GroupItems.{IsOpened, opened, none_before, last_behind, count_behind}
+use Rattle.meta_file_declare.proofs.GroupItems.{IsOpened, opened, none_before, last_after, count_after}
 use Rattle.meta_file_declare.proofs.EntryItems.{IsEntryItem, entry_item}
 
 -- a group is declared by the item that opens it
@@ -65,26 +65,26 @@ in_group : (items : List Item) (groups : List GroupDeclaration) (g e : ℕ) (x :
     → IsEntryItem o.name (before_group (drop (o.place + 1) items)) e x
     → (k : ℕ) × (place_of_entry items g e ≡ Some k) × DeclaresEntry items groups k g e
 in_group items groups g e x group o at has h =
-    let behind = drop (o.place + 1) items in
-    let entries = before_group behind in
-    let first = position_or_len is_group behind in
-    let less : h.place < first = below_taken behind first h.place h.item h.at in
-    let above : take h.place entries ≡ take h.place behind = taken behind first h.place (omega (arith, less)) in
-    let none = none_before behind h.place (omega (arith, less)) in
-    let split : take (o.place + 1 + h.place) items ≡ take o.place items ++ item.Group o.name ∷ take h.place behind =
+    let after = drop (o.place + 1) items in
+    let entries = before_group after in
+    let first = position_or_len is_group after in
+    let less : h.place < first = below_taken after first h.place h.item h.at in
+    let above : take h.place entries ≡ take h.place after = taken after first h.place (omega (arith, less)) in
+    let none = none_before after h.place (omega (arith, less)) in
+    let split : take (o.place + 1 + h.place) items ≡ take o.place items ++ item.Group o.name ∷ take h.place after =
     parts items o.place (item.Group o.name) h.place o.at in (
       o.place + 1 + h.place,
-      ap (option_and_then (entry_behind items e)) o.is_place ∙ ap (option_map (λ (k : ℕ). o.place + 1 + k)) h.is_place,
+      ap (option_and_then (entry_after items e)) o.is_place ∙ ap (option_map (λ (k : ℕ). o.place + 1 + k)) h.is_place,
       record {
         item = h.item;
         above = take h.place entries;
         group = group_with o.name entries;
         entry = x;
-        at = sym (get_drop items (o.place + 1) h.place) ∙ get_taken behind first h.place h.item h.at;
-        behind = ap last_entries split ∙ last_behind (take o.place items) (item.Group o.name) (take h.place behind) refl none.0
+        at = sym (get_drop items (o.place + 1) h.place) ∙ get_taken after first h.place h.item h.at;
+        after = ap last_entries split ∙ last_after (take o.place items) (item.Group o.name) (take h.place after) refl none.0
             ∙ ap (λ (es : List Item). Some es) (sym above);
         groups_above = ap (λ (is : List Item). count_by is_group is) split
-            ∙ count_behind (take o.place items) (item.Group o.name) (take h.place behind) refl none.1
+            ∙ count_after (take o.place items) (item.Group o.name) (take h.place after) refl none.1
             ∙ ap (λ (n : ℕ). n + 1) (nth_is is_group items g o.place o.is_place).above;
         group_is = at ∙ ap (λ (y : GroupDeclaration). Some y) o.is;
         number = h.number;

@@ -26,15 +26,15 @@ use Rattle.meta_file_declare.specs.Mentioned.{after_mark}
 use Rattle.meta_file_declare.specs.Registered.{IsSecondIn}
 
 -- the second control after one more mark at a place, if the marks before name m, or none
-abbrev second_behind : List Entry → Option MeantType → ℕ → Mark → Result (Option MeantType) Reason
-second_behind words m k (marks.Is property) = Ok m
-second_behind words None k (marks.Second t) = type_of words t >>= λ m. Ok (Some m)
-second_behind words (Some m) k (marks.Second t) = Err (SecondTwice k)
+abbrev second_after : List Entry → Option MeantType → ℕ → Mark → Result (Option MeantType) Reason
+second_after words m k (marks.Is property) = Ok m
+second_after words None k (marks.Second t) = type_of words t >>= λ m. Ok (Some m)
+second_after words (Some m) k (marks.Second t) = Err (SecondTwice k)
 
 -- the second control after more marks, if the marks before name m, or none
 abbrev second_from : List Entry → Option MeantType → ℕ → List Mark → Result (Option MeantType) Reason
 second_from words m k [] = Ok m
-second_from words m k (x ∷ xs) = second_behind words m k x >>= λ m. second_from words m (k + 1) xs
+second_from words m k (x ∷ xs) = second_after words m k x >>= λ m. second_from words m (k + 1) xs
 
 -- where one is named
 abbrev no_more : MeantType → List (ℕ × TypeExpr) → Result (Option MeantType) Reason
@@ -70,7 +70,7 @@ parts : (words : List Entry) (m : Option MeantType) (k : ℕ) (xs ys : List Mark
     → second_from words m k (xs ++ ys) ≡ (second_from words m k xs >>= λ m. second_from words m (k + length xs) ys)
 parts words m k [] ys = ap (λ (n : ℕ). second_from words m n ys) (sym (add-zero k))
 parts words m k (x ∷ xs) ys =
-    by (second_behind words m k x)
+    by (second_after words m k x)
     (λ n. parts words n (k + 1) xs ys ∙ ap (λ (j : ℕ). second_from words n (k + 1) xs >>= λ m. second_from words m j ys) (omega arith))
   where
     by : (a : Result (Option MeantType) Reason)
@@ -95,13 +95,13 @@ same (Err reason) = refl
 
 -- one mark more
 pub second_next : (words : List Entry) (all : List Mark) (k : ℕ) (x : Mark) (m : Option MeantType) → slice_get all k ≡ Some x
-    → second_of words (take k all) ≡ Ok m → second_of words (take (k + 1) all) ≡ second_behind words m k x
+    → second_of words (take k all) ≡ Ok m → second_of words (take (k + 1) all) ≡ second_after words m k x
 second_next words all k x m at is =
     let within : k < length all = slice_get_within all k x at in
     let place : length (take k all) ≡ k = length-take-le k all (omega arith) in
     ap (second_of words) (take_next all k x at) ∙ split words (take k all) (x ∷ [])
     ∙ ap (λ (a : Result (Option MeantType) Reason). a >>= λ m. second_from words m (length (take k all)) (x ∷ [])) is
-    ∙ same (second_behind words m (length (take k all)) x) ∙ ap (λ (j : ℕ). second_behind words m j x) place
+    ∙ same (second_after words m (length (take k all)) x) ∙ ap (λ (j : ℕ). second_after words m j x) place
 
 -- where something is wrong with marks before a place it is the first thing that is wrong with all
 pub fails_here : (words : List Entry) (all : List Mark) (k : ℕ) (e : ItemError) → Fails e (second_of words (take k all))
@@ -137,7 +137,7 @@ some_meant r (Some m) second named h = (m, refl)
 
 module _ (old : Registered) (s : Said) (all : List Mark) (k : ℕ) (mark : Mark) (m : Option MeantType)
     (before : second_of s.words (take k all) ≡ Ok m) (at : slice_get all k ≡ Some mark) where
-  next : second_of s.words (take (k + 1) all) ≡ second_behind s.words m k mark
+  next : second_of s.words (take (k + 1) all) ≡ second_after s.words m k mark
   next = second_next s.words all k mark m at before
 
   -- one that does something
@@ -146,7 +146,7 @@ module _ (old : Registered) (s : Said) (all : List Mark) (k : ℕ) (mark : Mark)
       → IsMeant (IsSecondIn (registered t (after_mark s mark))) second (second_of s.words (take (k + 1) all))
   same_second t second property e h = record {
     meaning = m;
-    is = next ∙ ap (second_behind s.words m k) e;
+    is = next ∙ ap (second_after s.words m k) e;
     by = subst (λ (x : Mark). IsSecondIn (registered t (after_mark s x)) m second) (sym e) h;
   }
 
@@ -155,7 +155,7 @@ module _ (old : Registered) (s : Said) (all : List Mark) (k : ℕ) (mark : Mark)
       → second_of s.words (take (k + 1) all) ≡ Err (SecondTwice k)
   second_twice second type e named h =
       let one = some_meant old m second named h in
-      next ∙ ap (second_behind s.words m k) e ∙ ap (λ (o : Option MeantType). second_behind s.words o k (marks.Second type)) one.1
+      next ∙ ap (second_after s.words m k) e ∙ ap (λ (o : Option MeantType). second_after s.words o k (marks.Second type)) one.1
 
   -- the first one
   abbrev told : TypeExpr → Result MeantType Reason
@@ -164,8 +164,8 @@ module _ (old : Registered) (s : Said) (all : List Mark) (k : ℕ) (mark : Mark)
   first_second : (second : Option ℕ) (type : TypeExpr) → mark ≡ marks.Second type → false ≡ is_some second → IsSecondIn old m second
       → second_of s.words (take (k + 1) all) ≡ (told type >>= λ m. Ok (Some m))
   first_second second type e free h =
-      next ∙ ap (second_behind s.words m k) e
-      ∙ ap (λ (o : Option MeantType). second_behind s.words o k (marks.Second type)) (none_meant old m second free h)
+      next ∙ ap (second_after s.words m k) e
+      ∙ ap (λ (o : Option MeantType). second_after s.words o k (marks.Second type)) (none_meant old m second free h)
 
   pub new_second : (t : Types) (second : Option ℕ) (type : TypeExpr) (n : ℕ) → mark ≡ marks.Second type → false ≡ is_some second
       → IsSecondIn old m second → IsMeant (IsTypeIn (registered t (after_type s type))) n (told type)

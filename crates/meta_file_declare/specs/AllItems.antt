@@ -30,7 +30,7 @@ wrong_with above known i = option_or (wrong_of_set above i) (groups.wrong_with k
 
 -- with an item below these
 abbrev pub wrong_below : List Item → Item → Option Reason
-wrong_below above i = wrong_with (insts.said above) (groups.known_behind above) i
+wrong_below above i = wrong_with (insts.said above) (groups.known_after above) i
 
 -- with the item at a place
 abbrev pub wrong_in : List Item → ℕ → Option Reason

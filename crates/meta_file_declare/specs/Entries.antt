@@ -51,7 +51,7 @@ pub record DeclaresEntry (items : List Item) (groups : List GroupDeclaration) (k
   pub group : GroupDeclaration
   pub entry : Entry
   pub at : slice_get items k ≡ Some item
-  pub behind : last_entries (take k items) ≡ Some above
+  pub after : last_entries (take k items) ≡ Some above
   pub groups_above : count_by is_group (take k items) ≡ n + 1
   pub group_is : slice_get groups n ≡ Some group
   pub number : number_below group above item ≡ Some e

@@ -147,12 +147,12 @@ abbrev pub laid_places : List Item → List ℕ
 laid_places items = places_of is_valued items ++ places_of is_bool items
 
 -- the place of an entry of the group that is opened at a place: the items of the group come after it
-abbrev pub entry_behind : List Item → ℕ → ℕ → Option ℕ
-entry_behind items e p = option_map (λ k. p + 1 + k) (slice_get (entry_places (before_group (drop (p + 1) items))) e)
+abbrev pub entry_after : List Item → ℕ → ℕ → Option ℕ
+entry_after items e p = option_map (λ k. p + 1 + k) (slice_get (entry_places (before_group (drop (p + 1) items))) e)
 
 -- the place of the item that declares this entry of this group
 abbrev pub place_of_entry : List Item → ℕ → ℕ → Option ℕ
-place_of_entry items g e = option_and_then (entry_behind items e) (place_of_group items g)
+place_of_entry items g e = option_and_then (entry_after items e) (place_of_group items g)
 
 -- the place of the item that declares this format, which counts from 0, and of the item that declares this instruction, which counts from 1
 abbrev pub place_of_format : List Item → ℕ → Option ℕ

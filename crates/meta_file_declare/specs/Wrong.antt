@@ -1,6 +1,6 @@
 -- What is wrong with a group or an entry, if anything is.
 --     wrong_with known i        what is wrong with the item, by the names that are known of its group
---     known_behind items        the names that stand for something after these items
+--     known_after items        the names that stand for something after these items
 use Rattle.std.specs.Prelude.{Bool, true, false, List, [], ◌∷◌, Option, Some, None, option_map, is_none, if◌then◌else◌}
 use Rattle.std.specs.List.{find}
 use Rattle.std.specs.Option.{option_or}
@@ -51,5 +51,5 @@ last_entries [] = None
 last_entries (i ∷ is) = option_or (last_entries is) (if is_group i then Some is else None)
 
 -- the names that stand for something below these items, if a group stands among them
-abbrev pub known_behind : List Item → Option Known
-known_behind items = option_map known_below (last_entries items)
+abbrev pub known_after : List Item → Option Known
+known_after items = option_map known_below (last_entries items)

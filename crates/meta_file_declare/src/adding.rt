@@ -188,8 +188,8 @@ impl Insts {
         // Nothing is wrong with the item, and what it declares and mentions is kept. The registry keeps what it had.
         ensures right { OnOk result (wrong_with above item.now ≡ None) }
         ensures types { OnOk result (held.Holds types.new (with_insts above place item.now).types) }
-        ensures insts { let behind = with_insts above place item.now in
-            OnOk result (Holds (held.registered types.new behind.types) self.new behind.insts) }
+        ensures insts { let after = with_insts above place item.now in
+            OnOk result (Holds (held.registered types.new after.types) self.new after.insts) }
         ensures extends { OnOk result
             (Extends (held.registered types.old above.types) (held.registered types.new (with_insts above place item.now).types)) }
         // The error says what is wrong with the item.

@@ -4,7 +4,7 @@ ghost use Rattle.meta_file_syntax.specs.declared.items.Item.{Item as spec_Item};
 ghost use Rattle.meta_file_types.specs.Held.{vars_in};
 ghost use Rattle.meta_file_declare.specs.Held.{formats_in, insts_in};
 ghost use Rattle.meta_file_declare.specs.SaidOfInsts.{Above, nothing_said, after, said};
-ghost use Rattle.meta_file_declare.specs.Wrong.{known_behind};
+ghost use Rattle.meta_file_declare.specs.Wrong.{known_after};
 ghost use Rattle.meta_file_declare.specs.OpenGroup.{group_in, known_in, IsKeptOpen, groups_so_far, closed_by, groups_after, no_groups};
 ghost use Rattle.meta_file_declare.specs.AllItems.{wrong_of_set, wrong_in, IsFirstWrong, Declares};
 ghost use Rattle.meta_file_declare.specs.SoFar.{HoldsSet};
@@ -76,7 +76,7 @@ impl Declaring {
         requires within { place < length items.now }
         requires set { HoldsSet self.old.types self.old.insts above }
         requires kept { IsKeptOpen self.old.groups.current }
-        requires known { known_in self.old.groups.current ≡ known_behind (take place items.now) }
+        requires known { known_in self.old.groups.current ≡ known_after (take place items.now) }
         // What the items up to this one declare is kept, and nothing is wrong with them.
         ensures set { OnOk result (HoldsSet self.new.types self.new.insts (said (take (place + 1) items.now))) }
         ensures kept { OnOk result (IsKeptOpen self.new.groups.current) }

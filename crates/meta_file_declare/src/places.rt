@@ -97,18 +97,18 @@ fn nth_of_both(first: Sort, second: Sort, items: &[Item], n: u64) -> Option<usiz
 /// The place of the item that declares a setting of a group, among the items after the one that opens the group. `setting` is its number in
 /// the layout of the group, from 0: enums and numbers come first, then booleans, each in order of declaration. `None` if the group has no
 /// such setting.
-pub fn laid_setting(behind: &[Item], setting: u64) -> Option<usize>
-    ensures { result ≡ slice_get (laid_places (before_group behind.now)) setting }
+pub fn laid_setting(after: &[Item], setting: u64) -> Option<usize>
+    ensures { result ≡ slice_get (laid_places (before_group after.now)) setting }
 {
-    nth_of_both(Sort::Valued, Sort::Bool, before_group(behind), setting)
+    nth_of_both(Sort::Valued, Sort::Bool, before_group(after), setting)
 }
 
 fn place_of_entry(items: &[Item], group: u64, entry: u64) -> Option<usize>
     ensures { result ≡ place_of_entry items.now group entry }
 {
     let place = nth(Sort::Group, items, group)?;
-    let (_, behind) = items.split_at(place + 1);
-    let within = nth_of_both(Sort::Setting, Sort::Preset, before_group(behind), entry)?;
+    let (_, after) = items.split_at(place + 1);
+    let within = nth_of_both(Sort::Setting, Sort::Preset, before_group(after), entry)?;
     Some(place + 1 + within)
 }
 

@@ -17,7 +17,7 @@ use Rattle.meta_file_declare.specs.Texts.{text_of}
 use Rattle.meta_file_declare.specs.Named.{Known, boolean_declared, known_below, meant}
 use Rattle.meta_file_declare.specs.Places.{is_group, before_group}
 use Rattle.meta_file_declare.specs.Said.{setting_of, preset_by, presets_below, group_with, groups_of}
-use Rattle.meta_file_declare.proofs.Growing.{groups_behind}
+use Rattle.meta_file_declare.proofs.Growing.{no_group_more}
 use Rattle.meta_file_describe.specs.Wording.{name_for}
 use Rattle.meta_file_describe.specs.SettingItems.{comment_for, item_as, item_of_setting, item_of_preset, items_of_groups}
 use Rattle.meta_file_describe.proofs.DeclaredAgain.{unplaced_specific, unplaced, preset_again, group_again}
@@ -119,14 +119,14 @@ no_preset known s (specific.Bool b) = refl
 no_preset known s (specific.Enum values) = refl
 no_preset known s (specific.Num default) = refl
 
-behind_settings : (above : List Item) (ss : List PlacedSetting) (es : List Item)
+after_settings : (above : List Item) (ss : List PlacedSetting) (es : List Item)
     → presets_below above (map item_of_setting ss ++ es) ≡ presets_below (above ++ map item_of_setting ss) es
-behind_settings above [] es = ap (λ (is : List Item). presets_below is es) (sym (append-nil above))
-behind_settings above (s ∷ ss) es =
+after_settings above [] es = ap (λ (is : List Item). presets_below is es) (sym (append-nil above))
+after_settings above (s ∷ ss) es =
     let more = above ++ item_of_setting s ∷ [] in
     ap (λ (ps : List PresetDeclaration). ps ++ presets_below more (map item_of_setting ss ++ es))
     (no_preset (known_below above) s s.specific)
-    ∙ behind_settings more ss es
+    ∙ after_settings more ss es
     ∙ ap (λ (is : List Item). presets_below is es) (append_assoc above (item_of_setting s ∷ []) (map item_of_setting ss))
 
 -- an entry more that is a preset names no boolean more
@@ -172,7 +172,7 @@ group_is g h =
     filter_map-append setting_of ss ps ∙ ap (λ (ds : List SettingDeclaration). filter_map setting_of ss ++ ds) (no_settings g g.presets)
     ∙ append-nil _ ∙ settings_again g.settings h.settings in
     let presets : presets_below [] (entries_again g) ≡ map preset_again g.presets =
-    behind_settings [] g.settings ps ∙ presets_again g h.apart ss g.presets (booleans_again g h) h.presets in
+    after_settings [] g.settings ps ∙ presets_again g h.apart ss g.presets (booleans_again g h) h.presets in
     λ i. let d : GroupDeclaration = record { name = name_said g.name i; settings = settings i; presets = presets i } in d
 
 -- ---- entries in front of the next group
@@ -210,7 +210,7 @@ before_entries (i ∷ es) rest h = before_entry i (es ++ rest) h.0 ∙ ap (λ (i
 
 groups_past : (es rest : List Item) → AreEntries es → groups_of (es ++ rest) ≡ groups_of rest
 groups_past [] rest h = refl
-groups_past (i ∷ es) rest h = groups_behind i (es ++ rest) h.0 ∙ groups_past es rest h.1
+groups_past (i ∷ es) rest h = no_group_more i (es ++ rest) h.0 ∙ groups_past es rest h.1
 
 -- ---- all groups
 

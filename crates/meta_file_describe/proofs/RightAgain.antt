@@ -21,7 +21,7 @@ use Rattle.meta_file_types.specs.declared.refused.Reason.TheVariants.{NoEntry}
 use Rattle.meta_file_declare.specs.Texts.{item_texts}
 use Rattle.meta_file_declare.specs.Named.{Known, known_below, meant}
 use Rattle.meta_file_declare.specs.Places.{IsOfGroup}
-use Rattle.meta_file_declare.specs.Wrong.{missing_in, misplaced, wrong_if, last_entries, known_behind}
+use Rattle.meta_file_declare.specs.Wrong.{missing_in, misplaced, wrong_if, last_entries, known_after}
 use Rattle.meta_file_declare.specs.Wrong as groups
 use Rattle.meta_file_declare.specs.AllItems.{wrong_of_set, wrong_below, AllRight}
 use Rattle.meta_file_declare.proofs.Growing.{more_entries, last_more}
@@ -75,15 +75,15 @@ set_right a (item.Enum i) h = refl
 set_right a (item.Preset i) h = refl
 
 -- its texts are UTF-8, and it can stand there
-right_by : (above : List Item) (i : Item) → IsOfGroup i → are_texts (item_texts i) ≡ true → misplaced (known_behind above) i ≡ None
+right_by : (above : List Item) (i : Item) → IsOfGroup i → are_texts (item_texts i) ≡ true → misplaced (known_after above) i ≡ None
     → wrong_below above i ≡ None
 right_by above i of texts placed =
-    ap (λ (o : Option Reason). option_or o (groups.wrong_with (known_behind above) i)) (set_right (said above) i of)
-    ∙ ap (λ (b : Bool). wrong_if b (misplaced (known_behind above) i)) texts ∙ placed
+    ap (λ (o : Option Reason). option_or o (groups.wrong_with (known_after above) i)) (set_right (said above) i of)
+    ∙ ap (λ (b : Bool). wrong_if b (misplaced (known_after above) i)) texts ∙ placed
 
 -- an entry stands after a `group`
 placed_by : (above es : List Item) (i : Item) → last_entries above ≡ Some es → misplaced (Some (known_below es)) i ≡ None
-    → misplaced (known_behind above) i ≡ None
+    → misplaced (known_after above) i ≡ None
 placed_by above es i last h = ap (λ (o : Option (List Item)). misplaced (option_map known_below o) i) last ∙ h
 
 -- ---- settings

@@ -57,20 +57,20 @@ doc_texts (c ∷ cs) h = ap are_texts (plain_lines (c ∷ cs) h) ∙ text_more (
 -- ---- those of a setting
 
 -- its name and its comment, and others after them
-texts_behind : (s : PlacedSetting) → IsSayableSetting s → (ts : List (List ℕ)) → are_texts ts ≡ true
+texts_after : (s : PlacedSetting) → IsSayableSetting s → (ts : List (List ℕ)) → are_texts ts ≡ true
     → are_texts (name_bytes (name_for s.name) ∷ (text_of (comment_for s.comment) ∷ ts)) ≡ true
-texts_behind s h ts k =
+texts_after s h ts k =
     text_more (name_bytes (name_for s.name)) (text_of (comment_for s.comment) ∷ ts) (name_is_text s.name h.name)
     (text_more (text_of (comment_for s.comment)) ts (subst IsUtf8 (sym (comment_again s.comment)) h.comment) k)
 
 pub setting_texts : (s : PlacedSetting) (k : SpecificSetting) → IsSayableSetting s → All IsName (values_in k)
     → are_texts (item_texts (item_as s k)) ≡ true
-setting_texts s (specific.Bool b) h v = texts_behind s h (doc_lines s.description) (doc_texts s.description h.description)
+setting_texts s (specific.Bool b) h v = texts_after s h (doc_lines s.description) (doc_texts s.description h.description)
 setting_texts s (specific.Enum values) h v =
     let docs = doc_lines s.description in
     let names = names_in (map name_for values) in
-    texts_behind s h (docs ++ names) (texts_joined docs names (doc_texts s.description h.description) (names_texts values v))
-setting_texts s (specific.Num default) h v = texts_behind s h (doc_lines s.description) (doc_texts s.description h.description)
+    texts_after s h (docs ++ names) (texts_joined docs names (doc_texts s.description h.description) (names_texts values v))
+setting_texts s (specific.Num default) h v = texts_after s h (doc_lines s.description) (doc_texts s.description h.description)
 
 -- ---- those of a preset
 

@@ -15,7 +15,7 @@ use Rattle.meta_file_syntax.specs.Keywords.{keyword_of}
 use Rattle.meta_file_syntax.specs.Laid.{AreWordBytes, IsWord, CanWrite, CanWriteAll}
 use Rattle.meta_file_syntax.specs.declared.name.Name.TheVariants as names
 use Rattle.meta_file_syntax.specs.declared.items.Item.{Item}
-use Rattle.meta_file_syntax.specs.Spelling.{docs, name, comment, truth, each_behind, comma, listed, named, spelled, spelled_all}
+use Rattle.meta_file_syntax.specs.Spelling.{docs, name, comment, truth, each_after, comma, listed, named, spelled, spelled_all}
 use Rattle.meta_settings.specs.declared.setting.SpecificSetting.{SpecificSetting}
 use Rattle.meta_settings.specs.declared.setting.SpecificSetting.TheVariants as specific
 use Rattle.meta_settings.specs.GroupFaults.{IsPlainByte}
@@ -57,7 +57,7 @@ can_comment : (text : List ℕ) → IsUtf8 text → CanWriteAll (comment (commen
 can_comment [] u = tt
 can_comment (c ∷ cs) u = (u, tt)
 
-can_more : (ws : List (List ℕ)) → All IsName ws → CanWriteAll (each_behind comma named (map name_for ws))
+can_more : (ws : List (List ℕ)) → All IsName ws → CanWriteAll (each_after comma named (map name_for ws))
 can_more [] all = tt
 can_more (w ∷ ws) all =
     (inr (inr (inl refl)), (can_name w (name_utf8 w (All-head IsName w ws all)), can_more ws (All-tail IsName w ws all)))

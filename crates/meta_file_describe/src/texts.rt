@@ -103,18 +103,18 @@ pub(crate) fn docs_of(alloc: Global, text: &[u8]) -> Result<Docs, AllocError>
 /// or `func_ref`.
 pub(crate) fn snake_case(alloc: Global, path: &[u8]) -> Result<Vec<u8>, AllocError> {
     let mut word = Vec::new(alloc);
-    let mut is_behind_small = false;
+    let mut is_after_small = false;
     for byte in path {
-        if byte.is_ascii_uppercase() && is_behind_small {
+        if byte.is_ascii_uppercase() && is_after_small {
             word.push(b'_')?;
         }
         if is_word_byte(*byte) {
             word.push(byte.to_ascii_lowercase())?;
-            is_behind_small = !byte.is_ascii_uppercase();
+            is_after_small = !byte.is_ascii_uppercase();
         }
         if *byte == b':' {
             word = Vec::new(alloc);
-            is_behind_small = false;
+            is_after_small = false;
         }
     }
     Ok(word)

@@ -60,7 +60,7 @@ no_derivation f fs w = function_text f ++ (codes " cannot be derived from " ++ w
 
 -- a function is one too many after the root of what the word stands for
 abbrev pub too_deep : List ℕ → DerivedFunc → List ℕ
-too_deep w f = function_text f ++ (codes " is the 65th function behind the root of " ++ back_quoted w)
+too_deep w f = function_text f ++ (codes " is the 65th function after the root of " ++ back_quoted w)
 
 -- the numbers that a part may have
 unfoldable pub numbers_text : Dimension → List ℕ
@@ -117,5 +117,5 @@ declare_why lines (reasons.FormatDeclared w place) = codes "format " ++ declared
 declare_why lines (reasons.TwoDesignated k) = codes "two values are designated"
 declare_why lines (reasons.UnknownFormat w) = about (codes "no format is named ") w (codes " above")
 declare_why lines (reasons.SecondTwice k) = codes "a second control is named twice"
-declare_why lines reasons.NoGroup = codes "a setting stands behind its group"
+declare_why lines reasons.NoGroup = codes "a setting stands after its group"
 declare_why lines (reasons.NoEntry n) = no_entry n

@@ -77,23 +77,23 @@ fn write_closed(out: &mut Vec<u8>, functions: &[DerivedFunc]) -> Result<(), Allo
 fn write_no_derivation(
     out: &mut Vec<u8>,
     function: DerivedFunc,
-    behind: &[DerivedFunc],
+    after: &[DerivedFunc],
     word: &[u8],
 ) -> Result<(), AllocError>
-    ensures { OnOk result (out.new.items ≡ out.old.items ++ no_derivation function behind.now word.now) }
+    ensures { OnOk result (out.new.items ≡ out.old.items ++ no_derivation function after.now word.now) }
 {
     out.extend_from_slice(function.name().as_bytes())?;
     out.extend_from_slice(b" cannot be derived from ")?;
-    write_opened(out, behind)?;
+    write_opened(out, after)?;
     out.extend_from_slice(word)?;
-    write_closed(out, behind)
+    write_closed(out, after)
 }
 
 fn write_too_deep(out: &mut Vec<u8>, word: &[u8], function: DerivedFunc) -> Result<(), AllocError>
     ensures { OnOk result (out.new.items ≡ out.old.items ++ too_deep word.now function) }
 {
     out.extend_from_slice(function.name().as_bytes())?;
-    out.extend_from_slice(b" is the 65th function behind the root of ")?;
+    out.extend_from_slice(b" is the 65th function after the root of ")?;
     write_back_quoted(out, word)
 }
 
@@ -164,13 +164,13 @@ fn write_about(
     out: &mut Vec<u8>,
     before: &[u8],
     word: &[u8],
-    behind: &[u8],
+    after: &[u8],
 ) -> Result<(), AllocError>
-    ensures { OnOk result (out.new.items ≡ out.old.items ++ about before.now word.now behind.now) }
+    ensures { OnOk result (out.new.items ≡ out.old.items ++ about before.now word.now after.now) }
 {
     out.extend_from_slice(before)?;
     write_back_quoted(out, word)?;
-    out.extend_from_slice(behind)
+    out.extend_from_slice(after)
 }
 
 fn write_declared(
@@ -211,8 +211,8 @@ fn write_why(out: &mut Vec<u8>, lines: &[usize], reason: Reason<'_>) -> Result<(
         Reason::NoKind(word) => {
             write_about(out, b"", word.as_slice(), b" is a type: a format has value")
         }
-        Reason::CannotDerive(function, behind, word) => {
-            write_no_derivation(out, function, behind.as_slice(), word.as_slice())
+        Reason::CannotDerive(function, after, word) => {
+            write_no_derivation(out, function, after.as_slice(), word.as_slice())
         }
         Reason::TooDeep(function, word) => write_too_deep(out, word.as_slice(), function),
         Reason::LongName(word) => {
@@ -233,7 +233,7 @@ fn write_why(out: &mut Vec<u8>, lines: &[usize], reason: Reason<'_>) -> Result<(
             write_about(out, b"no format is named ", word.as_slice(), b" above")
         }
         Reason::SecondTwice(_) => out.extend_from_slice(b"a second control is named twice"),
-        Reason::NoGroup => out.extend_from_slice(b"a setting stands behind its group"),
+        Reason::NoGroup => out.extend_from_slice(b"a setting stands after its group"),
         Reason::NoEntry(name) => write_no_entry(out, name.name()),
     }
 }

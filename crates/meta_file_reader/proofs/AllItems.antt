@@ -30,7 +30,7 @@ use Rattle.meta_file_reader.specs.declared.fault.PartError.{PartError}
 use Rattle.meta_file_reader.specs.declared.fault.PartError.TheVariants as errors
 use Rattle.meta_file_reader.specs.Parts.{◌>>=◌, Fails, name_at, docs_at}
 use Rattle.meta_file_reader.specs.SetReading.{kind_item_at, format_item_at, inst_item_at}
-use Rattle.meta_file_reader.specs.Reading.{bool_item_at, num_item_at, enum_item_at, preset_item_at, item_by, item_behind, item_at}
+use Rattle.meta_file_reader.specs.Reading.{bool_item_at, num_item_at, enum_item_at, preset_item_at, item_by, item_after, item_at}
 use Rattle.meta_file_reader.specs.Reading.{items_at}
 use Rattle.meta_file_reader.specs.Reading.{with_items}
 use Rattle.meta_file_reader.specs.Fits.{SetFits, SlotsFit, Fits, AllFit}
@@ -151,62 +151,62 @@ by_takes ds key.Preset ts x e =
     let a = bind_ok (preset_item_at ds ts) (λ b. Ok (item.Preset b.0, b.1)) x e in
     subst (Taken (docs ds ++ Key key.Preset ∷ ts)) (ok_is (item.Preset a.0.0, a.0.1) x a.2) (preset_takes ds ts a.0 a.1)
 
-behind_takes : (ds : List (List ℕ)) (ts : List Token) (x : Item × List Token) → item_behind ds ts ≡ Ok x → Taken (docs ds ++ ts) x
-behind_takes ds [] x e = absurd cc
-behind_takes ds (Key k ∷ ts) x e = by_takes ds k ts x e
-behind_takes ds (Word w ∷ ts) x e = absurd cc
-behind_takes ds (Quoted t ∷ ts) x e = absurd cc
-behind_takes ds (Sign c ∷ ts) x e = absurd cc
-behind_takes ds (Doc d ∷ ts) x e = absurd cc
-behind_takes ds (Stray f ∷ ts) x e = absurd cc
+after_takes : (ds : List (List ℕ)) (ts : List Token) (x : Item × List Token) → item_after ds ts ≡ Ok x → Taken (docs ds ++ ts) x
+after_takes ds [] x e = absurd cc
+after_takes ds (Key k ∷ ts) x e = by_takes ds k ts x e
+after_takes ds (Word w ∷ ts) x e = absurd cc
+after_takes ds (Quoted t ∷ ts) x e = absurd cc
+after_takes ds (Sign c ∷ ts) x e = absurd cc
+after_takes ds (Doc d ∷ ts) x e = absurd cc
+after_takes ds (Stray f ∷ ts) x e = absurd cc
 
 pub item_takes : (ts : List Token) (x : Item × List Token) → item_at ts ≡ Ok x → Taken ts x
 unfolding item_at
-item_takes ts x e = docs_takes ts ∙ behind_takes (docs_at ts).0 (docs_at ts).1 x e
+item_takes ts x e = docs_takes ts ∙ after_takes (docs_at ts).0 (docs_at ts).1 x e
 
 -- ---- an item that is spelled so is read
 
-behind_docs : (ds : List (List ℕ)) (k : Keyword) (body more : List Token)
+after_docs : (ds : List (List ℕ)) (k : Keyword) (body more : List Token)
     → item_at ((docs ds ++ Key k ∷ body) ++ more) ≡ item_by ds k (body ++ more)
 unfolding item_at
-behind_docs ds k body more =
+after_docs ds k body more =
     ap item_at (append_assoc (docs ds) (Key k ∷ body) more)
-    ∙ ap (λ (x : List (List ℕ) × List Token). item_behind x.0 x.1) (docs_again ds k (body ++ more))
+    ∙ ap (λ (x : List (List ℕ) × List Token). item_after x.0 x.1) (docs_again ds k (body ++ more))
 
 group_again : (n : Name) (more : List Token) → item_at (spelled (item.Group n) ++ more) ≡ Ok (item.Group n, more)
 group_again n more =
-    behind_docs [] key.Group (name n ∷ []) more
+    after_docs [] key.Group (name n ∷ []) more
     ∙ ap (λ (r : Result (Name × List Token) Fault). r >>= λ n. Ok (item.Group n.0, n.1)) (name_again wanted.GroupName n more)
 
 type_reads : (i : TypeItem) (more : List Token) → SetFits i.set → Apart (item.Type i) more
     → item_at (spelled (item.Type i) ++ more) ≡ Ok (item.Type i, more)
-type_reads i more fit apart = behind_docs i.docs key.Type (type_item i) more ∙ type_item_again i more fit apart
+type_reads i more fit apart = after_docs i.docs key.Type (type_item i) more ∙ type_item_again i more fit apart
 
 alias_reads : (i : AliasItem) (more : List Token) → Apart (item.Alias i) more
     → item_at (spelled (item.Alias i) ++ more) ≡ Ok (item.Alias i, more)
-alias_reads i more apart = behind_docs i.docs key.Type (alias_item i) more ∙ alias_again i more apart
+alias_reads i more apart = after_docs i.docs key.Type (alias_item i) more ∙ alias_again i more apart
 
 kind_reads : (i : KindItem) (more : List Token) → Apart (item.Kind i) more
     → item_at (spelled (item.Kind i) ++ more) ≡ Ok (item.Kind i, more)
 kind_reads i more apart =
-    behind_docs i.docs key.Kind (kind_item i) more
+    after_docs i.docs key.Kind (kind_item i) more
     ∙ ap (λ (r : Result (KindItem × List Token) Fault). r >>= λ x. Ok (item.Kind x.0, x.1)) (kind_again i more apart)
 
 format_reads : (i : FormatItem) (more : List Token) → SlotsFit i.slots → Apart (item.Format i) more
     → item_at (spelled (item.Format i) ++ more) ≡ Ok (item.Format i, more)
 format_reads i more fit apart =
-    behind_docs [] key.Format (format_item i) more
+    after_docs [] key.Format (format_item i) more
     ∙ ap (λ (r : Result (FormatItem × List Token) Fault). r >>= λ f. Ok (item.Format f.0, f.1)) (format_again i more fit apart)
 
 inst_reads : (i : InstItem) (more : List Token) → Apart (item.Inst i) more
     → item_at (spelled (item.Inst i) ++ more) ≡ Ok (item.Inst i, more)
 inst_reads i more apart =
-    behind_docs i.docs key.Inst (inst_item i) more
+    after_docs i.docs key.Inst (inst_item i) more
     ∙ ap (λ (r : Result (InstItem × List Token) Fault). r >>= λ x. Ok (item.Inst x.0, x.1)) (inst_again i more apart)
 
 preset_reads : (i : PresetItem) (more : List Token) → item_at (spelled (item.Preset i) ++ more) ≡ Ok (item.Preset i, more)
 preset_reads i more =
-    behind_docs i.docs key.Preset (preset_item i) more
+    after_docs i.docs key.Preset (preset_item i) more
     ∙ ap (λ (r : Result (PresetItem × List Token) Fault). r >>= λ x. Ok (item.Preset x.0, x.1)) (preset_again i more)
 
 -- where items end
@@ -218,13 +218,13 @@ item_again (item.Format i) more fit end = format_reads i more fit (ends_apart (i
 item_again (item.Inst i) more fit end = inst_reads i more (ends_apart (item.Inst i) more end)
 item_again (item.Group n) more fit end = group_again n more
 item_again (item.Bool b) more fit end =
-    behind_docs b.docs key.Bool (bool_item b) more
+    after_docs b.docs key.Bool (bool_item b) more
     ∙ ap (λ (r : Result (BoolItem × List Token) Fault). r >>= λ x. Ok (item.Bool x.0, x.1)) (bool_again b more (ends_text more end))
 item_again (item.Num b) more fit end =
-    behind_docs b.docs key.Num (num_item b) more
+    after_docs b.docs key.Num (num_item b) more
     ∙ ap (λ (r : Result (NumItem × List Token) Fault). r >>= λ x. Ok (item.Num x.0, x.1)) (num_again b more fit (ends_text more end))
 item_again (item.Enum b) more fit end =
-    behind_docs b.docs key.Enum (enum_item b) more
+    after_docs b.docs key.Enum (enum_item b) more
     ∙ ap (λ (r : Result (EnumItem × List Token) Fault). r >>= λ x. Ok (item.Enum x.0, x.1)) (enum_again b more (ends_text more end))
 item_again (item.Preset b) more fit end = preset_reads b more
 
@@ -241,17 +241,17 @@ item_begins (item.Inst i) more fit apart = ((item.Inst i, more), inst_reads i mo
 item_begins (item.Group n) more fit apart = ((item.Group n, more), group_again n more, omega arith)
 item_begins (item.Bool b) more fit apart =
     let a = bool_begins b more in
-    let read : item_at (spelled (item.Bool b) ++ more) ≡ Ok (item.Bool a.0.0, a.0.1) = behind_docs b.docs key.Bool (bool_item b) more
+    let read : item_at (spelled (item.Bool b) ++ more) ≡ Ok (item.Bool a.0.0, a.0.1) = after_docs b.docs key.Bool (bool_item b) more
     ∙ ap (λ (r : Result (BoolItem × List Token) Fault). r >>= λ x. Ok (item.Bool x.0, x.1)) a.1 in
     ((item.Bool a.0.0, a.0.1), read, a.2)
 item_begins (item.Num b) more fit apart =
     let a = num_begins b more fit in
-    let read : item_at (spelled (item.Num b) ++ more) ≡ Ok (item.Num a.0.0, a.0.1) = behind_docs b.docs key.Num (num_item b) more
+    let read : item_at (spelled (item.Num b) ++ more) ≡ Ok (item.Num a.0.0, a.0.1) = after_docs b.docs key.Num (num_item b) more
     ∙ ap (λ (r : Result (NumItem × List Token) Fault). r >>= λ x. Ok (item.Num x.0, x.1)) a.1 in
     ((item.Num a.0.0, a.0.1), read, a.2)
 item_begins (item.Enum b) more fit apart =
     let a = enum_begins b more in
-    let read : item_at (spelled (item.Enum b) ++ more) ≡ Ok (item.Enum a.0.0, a.0.1) = behind_docs b.docs key.Enum (enum_item b) more
+    let read : item_at (spelled (item.Enum b) ++ more) ≡ Ok (item.Enum a.0.0, a.0.1) = after_docs b.docs key.Enum (enum_item b) more
     ∙ ap (λ (r : Result (EnumItem × List Token) Fault). r >>= λ x. Ok (item.Enum x.0, x.1)) a.1 in
     ((item.Enum a.0.0, a.0.1), read, a.2)
 item_begins (item.Preset b) more fit apart = ((item.Preset b, more), preset_reads b more, omega arith)
@@ -281,19 +281,19 @@ by_within ds key.Num ts = wrapped key.Num ts (num_item_at ds ts) (λ i. item.Num
 by_within ds key.Enum ts = wrapped key.Enum ts (enum_item_at ds ts) (λ i. item.Enum i) (enum_within ds ts)
 by_within ds key.Preset ts = wrapped key.Preset ts (preset_item_at ds ts) (λ i. item.Preset i) (preset_within ds ts)
 
-behind_within : (ds : List (List ℕ)) (ts : List Token) → Shorter ts (item_behind ds ts)
-behind_within ds [] = omega arith
-behind_within ds (Key k ∷ ts) = by_within ds k ts
-behind_within ds (Word w ∷ ts) = omega arith
-behind_within ds (Quoted t ∷ ts) = omega arith
-behind_within ds (Sign c ∷ ts) = omega arith
-behind_within ds (Doc d ∷ ts) = omega arith
-behind_within ds (Stray f ∷ ts) = omega arith
+after_within : (ds : List (List ℕ)) (ts : List Token) → Shorter ts (item_after ds ts)
+after_within ds [] = omega arith
+after_within ds (Key k ∷ ts) = by_within ds k ts
+after_within ds (Word w ∷ ts) = omega arith
+after_within ds (Quoted t ∷ ts) = omega arith
+after_within ds (Sign c ∷ ts) = omega arith
+after_within ds (Doc d ∷ ts) = omega arith
+after_within ds (Stray f ∷ ts) = omega arith
 
 pub item_within : Keeps item_at
 unfolding item_at
 item_within ts =
-    longer (docs_at ts).1 ts (item_behind (docs_at ts).0 (docs_at ts).1) (docs_within ts) (behind_within (docs_at ts).0 (docs_at ts).1)
+    longer (docs_at ts).1 ts (item_after (docs_at ts).0 (docs_at ts).1) (docs_within ts) (after_within (docs_at ts).0 (docs_at ts).1)
 
 -- ---- all items
 
@@ -412,7 +412,7 @@ longest_with ts x rest read short later (i ∷ []) more fit apart s =
     let b = item_begins i more fit.0 apart in
     let one : item_at ts ≡ Ok b.0 = ap item_at (s ∙ append_assoc (spelled i) [] more) ∙ b.1 in
     let same : x ≡ b.0 = ok_is x b.0 (sym read ∙ one) in
-    let behind : length x.1 ≡ length b.0.1 = ap (λ (y : Item × List Token). length y.1) same in
+    let after : length x.1 ≡ length b.0.1 = ap (λ (y : Item × List Token). length y.1) same in
     let less : length b.0.1 ≤ length more = b.2 in
     omega arith
 longest_with ts x rest read short later (i ∷ j ∷ js) more fit apart s =
@@ -438,7 +438,7 @@ pub record IsFault (ts : List Token) (place : ℕ) : Type 0 where
   pub apart : LastApart front rest
   pub longest : Longest ts rest
   pub some : rest ≡ [] → ⊥
-  pub behind : length (spelled_all front) ≤ place
+  pub after : length (spelled_all front) ≤ place
   pub within : place ≤ length ts
   pub begun : BeginItems (take place ts)
 
@@ -447,14 +447,14 @@ abbrev pub RefusedBefore : ℕ → List Token → Type 0
 RefusedBefore left ts = (left ≤ length ts) × IsFault ts (length ts - left)
 
 -- after an item that was read
-refused_behind : (ts : List Token) (x : Item × List Token) (left : ℕ) → item_at ts ≡ Ok x → RefusedBefore left x.1 → RefusedBefore left ts
-refused_behind ts x left is (few, r) =
+refused_after : (ts : List Token) (x : Item × List Token) (left : ℕ) → item_at ts ≡ Ok x → RefusedBefore left x.1 → RefusedBefore left ts
+refused_after ts x left is (few, r) =
     let all : length x.1 ≡ length (spelled_all r.front) + length r.rest = ap length r.are
     ∙ length-append (spelled_all r.front) r.rest in
     let whole : length ts ≡ length (spelled x.0) + length x.1 = ap length (item_takes ts x is) ∙ length-append (spelled x.0) x.1 in
     let items : length (spelled_all (x.0 ∷ r.front)) ≡ length (spelled x.0) + length (spelled_all r.front) =
     length-append (spelled x.0) (spelled_all r.front) in
-    let from : length (spelled_all r.front) ≤ length x.1 - left = r.behind in
+    let from : length (spelled_all r.front) ≤ length x.1 - left = r.after in
     let place : length ts - left ≡ length (spelled x.0) + (length x.1 - left) = omega arith in
     let before : take (length ts - left) ts ≡ spelled x.0 ++ take (length x.1 - left) x.1 = ap (λ (n : ℕ). take n ts) place
     ∙ ap (λ (us : List Token). take (length (spelled x.0) + (length x.1 - left)) us) (item_takes ts x is)
@@ -469,7 +469,7 @@ refused_behind ts x left is (few, r) =
         apart = last_with ts x r.front r.rest is r.are r.apart;
         longest = longest_with ts x r.rest is (omega arith) r.longest;
         some = r.some;
-        behind = omega arith;
+        after = omega arith;
         within = omega arith;
         begun = record {
           is = x.0 ∷ r.begun.is;
@@ -495,7 +495,7 @@ refused_by n t ts f (Err g) is_none later e =
         apart = tt;
         longest = λ is more fit apart s. none_stands (t ∷ ts) g is more is_none fit apart s;
         some = λ no. absurd (cc);
-        behind = omega arith;
+        after = omega arith;
         within = omega arith;
         begun = fault_begins (t ∷ ts) f read;
       },
@@ -508,7 +508,7 @@ all_refused zero [] f le e = absurd cc
 all_refused zero (t ∷ ts) f le e = absurd (omega arith)
 all_refused (suc n) [] f le e = absurd cc
 all_refused (suc n) (t ∷ ts) f le e =
-    refused_by n t ts f (item_at (t ∷ ts)) refl (λ x is later. refused_behind (t ∷ ts) x f.left is (let few : length x.1 ≤ n =
+    refused_by n t ts f (item_at (t ∷ ts)) refl (λ x is later. refused_after (t ∷ ts) x f.left is (let few : length x.1 ≤ n =
     (let some = fewer (t ∷ ts) x is in omega arith) in all_refused n x.1 f few later)) e
 
 -- a fault has no more tokens left than there are

@@ -8,7 +8,7 @@ use Rattle.meta_file_syntax.specs.declared.name.Name.{Name}
 use Rattle.meta_types.specs.declared.derived_func.DerivedFunc.{DerivedFunc}
 use Rattle.meta_types.specs.declared.derived_func.DerivedFunc.TheVariants as functions
 use Rattle.meta_file_syntax.specs.declared.types.TypeExpr.{TypeExpr}
-use Rattle.meta_file_syntax.specs.Spelling.{name, each_behind, comma, listed, called, closed, type_expr}
+use Rattle.meta_file_syntax.specs.Spelling.{name, each_after, comma, listed, called, closed, type_expr}
 use Rattle.meta_file_syntax.specs.Words.{function_text, function_named}
 use Rattle.meta_file_reader.specs.declared.fault.Fault.{Fault}
 use Rattle.meta_file_reader.specs.declared.fault.Wanted.{Wanted}
@@ -17,7 +17,7 @@ use Rattle.meta_file_reader.specs.declared.lists.Layout.{Layout}
 use Rattle.meta_file_reader.specs.declared.lists.Layout.TheVariants as layouts
 use Rattle.meta_file_reader.specs.Parts.{◌>>=◌, wants, name_at, word_at, text_at, sign_or_at, chosen_by, chosen_at, sign_first}
 use Rattle.meta_file_reader.specs.Parts.{call_first}
-use Rattle.meta_file_reader.specs.Lists.{comma_or, separator_at, part_behind, step_at, with_step, more_at, with_front, some_at}
+use Rattle.meta_file_reader.specs.Lists.{comma_or, separator_at, part_after, step_at, with_step, more_at, with_front, some_at}
 use Rattle.meta_file_reader.specs.Lists.{closes_first, list_at}
 use Rattle.meta_file_reader.specs.Fits.{Every}
 use Rattle.meta_file_reader.specs.SetReading.{function_at, calls_at, closed_at, type_at}
@@ -54,10 +54,10 @@ pub told_as : {A : Type 0} (P Q : List Token → Type 0) (ts : List Token) (r : 
 told_as P Q ts (Ok x) h t = tt
 told_as P Q ts (Err f) h t = (t.0, t.1, t.2, t.3, h t.0 t.4)
 
-pub told_behind : {A : Type 0} (P : List Token → Type 0) (front rest ts : List Token) (r : Result A Fault) → ts ≡ front ++ rest
+pub told_after : {A : Type 0} (P : List Token → Type 0) (front rest ts : List Token) (r : Result A Fault) → ts ≡ front ++ rest
     → Told (λ d. P (front ++ d)) rest r → Told P ts r
-told_behind P front rest ts (Ok x) e t = tt
-told_behind P front rest ts (Err f) e t =
+told_after P front rest ts (Ok x) e t = tt
+told_after P front rest ts (Err f) e t =
     (front ++ t.0, t.1, e ∙ ap (λ (u : List Token). front ++ u) t.2 ∙ sym (append_assoc front t.0 t.1), t.3, t.4)
 
 pub told_bind : {A B : Type 0} (P : List Token → Type 0) (ts : List Token) (r : Result A Fault) (f : A → Result B Fault) → Told P ts r
@@ -72,7 +72,7 @@ pub told_part : {A B : Type 0} (P : List Token → Type 0) (part : A → List To
     → ((x : A × List Token) → at ts ≡ Ok x → Told (λ d. P (part x.0 ++ d)) x.1 (f x)) → Told P ts (at ts >>= f)
 told_part P part good at ts f takes begins h g =
     told_bind P ts (at ts) f (told_as (Starts part good) P ts (at ts) h (begins ts))
-    (λ x e. told_behind P (part x.0) x.1 ts (f x) (takes ts x e) (g x e))
+    (λ x e. told_after P (part x.0) x.1 ts (f x) (takes ts x e) (g x e))
 
 -- a part after which nothing fails
 pub told_last : {A B : Type 0} (P : List Token → Type 0) (part : A → List Token) (good : A → Type 0)
@@ -151,25 +151,25 @@ pub told_name : {B : Type 0} (P : List Token → Type 0) (w : Wanted) (ts : List
     → ((x : Name × List Token) → Told (λ d. P (name x.0 ∷ d)) x.1 (f x)) → Told P ts (name_at w ts >>= f)
 told_name P w ts f p g =
     told_bind P ts (name_at w ts) f (name_told P w ts p)
-    (λ x e. told_behind P (name x.0 ∷ []) x.1 ts (f x) (name_takes w ts x e) (g x))
+    (λ x e. told_after P (name x.0 ∷ []) x.1 ts (f x) (name_takes w ts x e) (g x))
 
 pub told_word : {B : Type 0} (P : List Token → Type 0) (w : Wanted) (ts : List Token) (f : List ℕ × List Token → Result B Fault) → P []
     → ((x : List ℕ × List Token) → Told (λ d. P (Word x.0 ∷ d)) x.1 (f x)) → Told P ts (word_at w ts >>= f)
 told_word P w ts f p g =
     told_bind P ts (word_at w ts) f (word_told P w ts p)
-    (λ x e. told_behind P (Word x.0 ∷ []) x.1 ts (f x) (word_takes w ts x e) (g x))
+    (λ x e. told_after P (Word x.0 ∷ []) x.1 ts (f x) (word_takes w ts x e) (g x))
 
 pub told_text : {B : Type 0} (P : List Token → Type 0) (ts : List Token) (f : List ℕ × List Token → Result B Fault) → P []
     → ((x : List ℕ × List Token) → Told (λ d. P (Quoted x.0 ∷ d)) x.1 (f x)) → Told P ts (text_at ts >>= f)
 told_text P ts f p g =
     told_bind P ts (text_at ts) f (text_told P ts p)
-    (λ x e. told_behind P (Quoted x.0 ∷ []) x.1 ts (f x) (text_takes ts x e) (g x))
+    (λ x e. told_after P (Quoted x.0 ∷ []) x.1 ts (f x) (text_takes ts x e) (g x))
 
 pub told_sign : {B : Type 0} (P : List Token → Type 0) (w : Wanted) (s : ℕ) (ts : List Token) (f : List Token → Result B Fault) → P []
     → ((rest : List Token) → Told (λ d. P (Sign s ∷ d)) rest (f rest)) → Told P ts (sign_or_at w s ts >>= f)
 told_sign P w s ts f p g =
     told_bind P ts (sign_or_at w s ts) f (sign_told P w s ts p)
-    (λ rest e. told_behind P (Sign s ∷ []) rest ts (f rest) (sign_takes w s ts rest e) (g rest))
+    (λ rest e. told_after P (Sign s ∷ []) rest ts (f rest) (sign_takes w s ts rest e) (g rest))
 
 -- ---- lists
 
@@ -203,13 +203,13 @@ separator_told P layouts.Calls ts p = tt
 -- what begins the parts of a list after one
 abbrev More : {A : Type 0} → (A → List Token) → (A → Type 0) → Layout → (List Token → Type 0) → Type 0
 More {A} part good l P = (ys : List A) (d more : List Token) → Every good ys
-    → each_behind (separator l) part ys ++ closing l ≡ d ++ more → P d
+    → each_after (separator l) part ys ++ closing l ≡ d ++ more → P d
 
 part_told : {A : Type 0} (part : A → List Token) (good : A → Type 0) (at : List Token → Result (A × List Token) Fault) (l : Layout)
     → Begins part good at → (P : List Token → Type 0) → More part good l P → (ts : List Token) (s : Bool) (rest : List Token)
-    → Parted (separator l) (closing l) ts (s, rest) → Told P ts (part_behind at s rest)
+    → Parted (separator l) (closing l) ts (s, rest) → Told P ts (part_after at s rest)
 part_told {A} part good at l begins P h ts true rest parted =
-    told_behind P (separator l) rest ts (at rest >>= λ y. Ok (Some y.0, y.1)) parted
+    told_after P (separator l) rest ts (at rest >>= λ y. Ok (Some y.0, y.1)) parted
     (told_last (λ d. P (separator l ++ d)) part good at rest (λ y. (Some y.0, y.1)) begins
     (λ d s. h (s.0 ∷ []) (separator l ++ d) (s.1 ++ closing l) (s.2, tt)
     (append_assoc (separator l) (part s.0 ++ []) (closing l)
@@ -220,7 +220,7 @@ part_told part good at l begins P h ts false rest parted = tt
 step_told : {A : Type 0} (part : A → List Token) (good : A → Type 0) (at : List Token → Result (A × List Token) Fault) (l : Layout)
     → Begins part good at → (P : List Token → Type 0) → More part good l P → (ts : List Token) → Told P ts (step_at at l ts)
 step_told part good at l begins P h ts =
-    told_bind P ts (separator_at l ts) (λ s. part_behind at s.0 s.1)
+    told_bind P ts (separator_at l ts) (λ s. part_after at s.0 s.1)
     (separator_told P l ts (h [] [] (closing l) tt refl))
     (λ s e. part_told part good at l begins P h ts s.0 s.1 (separator_takes l ts s e))
 
@@ -229,7 +229,7 @@ then_told : {A : Type 0} (part : A → List Token) (good : A → Type 0) (l : La
     → ((y : A) → good y → Told (λ d. P ((separator l ++ part y) ++ d)) r later) → Told P ts (with_step o r later)
 then_told part good l P ts None r later one taken g = tt
 then_told part good l P ts (Some y) r later one taken g =
-    told_behind P (separator l ++ part y) r ts (later >>= λ xs. Ok (y ∷ xs.0, xs.1))
+    told_after P (separator l ++ part y) r ts (later >>= λ xs. Ok (y ∷ xs.0, xs.1))
     (taken ∙ sym (append_assoc (separator l) (part y) r))
     (told_bind (λ d. P ((separator l ++ part y) ++ d)) r later (λ xs. Ok (y ∷ xs.0, xs.1)) (g y one) (λ x e. tt))
 
@@ -243,33 +243,33 @@ more_told part good at l takes gets begins (suc n) P h ts =
     (λ x e. then_told part good l P ts x.0 x.1 (more_at at l n x.1) (step_good good at l gets ts x e) (step_takes part at l takes ts x e)
     (λ y g. more_told part good at l takes gets begins n (λ d. P ((separator l ++ part y) ++ d))
     (λ ys d more all w. h (y ∷ ys) ((separator l ++ part y) ++ d) more (g, all)
-    (append_assoc (separator l) (part y ++ each_behind (separator l) part ys) (closing l)
-    ∙ ap (λ (u : List Token). separator l ++ u) (append_assoc (part y) (each_behind (separator l) part ys) (closing l))
-    ∙ sym (append_assoc (separator l) (part y) (each_behind (separator l) part ys ++ closing l))
-    ∙ with_front_of (separator l ++ part y) (each_behind (separator l) part ys ++ closing l) d more w)) x.1))
+    (append_assoc (separator l) (part y ++ each_after (separator l) part ys) (closing l)
+    ∙ ap (λ (u : List Token). separator l ++ u) (append_assoc (part y) (each_after (separator l) part ys) (closing l))
+    ∙ sym (append_assoc (separator l) (part y) (each_after (separator l) part ys ++ closing l))
+    ∙ with_front_of (separator l ++ part y) (each_after (separator l) part ys ++ closing l) d more w)) x.1))
 
 -- a list of one part and more, of which the first is told of alone
 pub some_told_by : {A : Type 0} (part : A → List Token) (good first : A → Type 0) (at : List Token → Result (A × List Token) Fault)
     (l : Layout) → Takes part at → Gets good at → Begins part good at → (P : List Token → Type 0) (ts : List Token)
     → Told (Starts part first) ts (at ts) → ((x : A × List Token) → at ts ≡ Ok x → first x.0)
     → ((x : A) (xs : List A) (d more : List Token) → first x → Every good xs
-    → part x ++ (each_behind (separator l) part xs ++ closing l) ≡ d ++ more → P d) → Told P ts (some_at at l ts)
+    → part x ++ (each_after (separator l) part xs ++ closing l) ≡ d ++ more → P d) → Told P ts (some_at at l ts)
 unfolding some_at
 some_told_by part good first at l takes gets begins P ts front is h =
     told_bind P ts (at ts) (λ x. with_front (x.0 ∷ []) (more_at at l (length ts) x.1))
     (told_as (Starts part first) P ts (at ts)
     (λ d s. h s.0 [] d (s.1 ++ closing l) s.2 tt (with_tail (part s.0) d s.1 (closing l) s.3)) front)
-    (λ x e. told_behind P (part x.0) x.1 ts (with_front (x.0 ∷ []) (more_at at l (length ts) x.1)) (takes ts x e)
+    (λ x e. told_after P (part x.0) x.1 ts (with_front (x.0 ∷ []) (more_at at l (length ts) x.1)) (takes ts x e)
     (told_bind (λ d. P (part x.0 ++ d)) x.1 (more_at at l (length ts) x.1) (λ y. Ok ((x.0 ∷ []) ++ y.0, y.1))
     (more_told part good at l takes gets begins (length ts) (λ d. P (part x.0 ++ d))
     (λ ys d more all w. h x.0 ys (part x.0 ++ d) more (is x e) all
-    (with_front_of (part x.0) (each_behind (separator l) part ys ++ closing l) d more w)) x.1)
+    (with_front_of (part x.0) (each_after (separator l) part ys ++ closing l) d more w)) x.1)
     (λ y r. tt)))
 
 -- what begins a list of one part and more
 abbrev pub SomeBegin : {A : Type 0} → (A → List Token) → (A → Type 0) → Layout → (List Token → Type 0) → Type 0
 SomeBegin {A} part good l P = (x : A) (xs : List A) (d more : List Token) → Every good (x ∷ xs)
-    → part x ++ (each_behind (separator l) part xs ++ closing l) ≡ d ++ more → P d
+    → part x ++ (each_after (separator l) part xs ++ closing l) ≡ d ++ more → P d
 
 pub some_told : {A : Type 0} (part : A → List Token) (good : A → Type 0) (at : List Token → Result (A × List Token) Fault) (l : Layout)
     → Takes part at → Gets good at → Begins part good at → (P : List Token → Type 0) → SomeBegin part good l P → (ts : List Token)
@@ -288,8 +288,8 @@ list_by part good at l takes gets begins commas P h ts true = tt
 list_by part good at l takes gets begins commas P h ts false =
     some_told part good at l takes gets begins P
     (λ x xs d more all w. h (x ∷ xs) d more all
-    (append_assoc (part x) (each_behind comma part xs) (closing l)
-    ∙ ap (λ (u : List Token). part x ++ (each_behind u part xs ++ closing l)) (sym commas) ∙ w)) ts
+    (append_assoc (part x) (each_after comma part xs) (closing l)
+    ∙ ap (λ (u : List Token). part x ++ (each_after u part xs ++ closing l)) (sym commas) ∙ w)) ts
 
 pub list_told : {A : Type 0} (part : A → List Token) (good : A → Type 0) (at : List Token → Result (A × List Token) Fault) (l : Layout)
     → Takes part at → Gets good at → Begins part good at → separator l ≡ comma → (P : List Token → Type 0) → ListBegins part good l P
@@ -305,7 +305,7 @@ unfolding function_at
 function_told w ts =
     told_bind (Starts called Any) ts (chosen_at w function_named ts) _
     (chosen_told (Starts called Any) w function_named ts (functions.LaneOf, called functions.LaneOf, tt, refl))
-    (λ x e. told_behind (Starts called Any) (Word (function_text x.0) ∷ []) x.1 ts _
+    (λ x e. told_after (Starts called Any) (Word (function_text x.0) ∷ []) x.1 ts _
     (chosen_takes w function_named function_text function_is ts x e)
     (told_sign (λ d. Starts called Any (Word (function_text x.0) ∷ d)) (wanted.Sign 40) 40 x.1 _ (x.0, Sign 40 ∷ [], tt, refl) (λ r. tt)))
 
@@ -324,8 +324,8 @@ calls_by ts true =
       a_type (f ∷ fs),
       more ++ Word (codes "i32") ∷ closed (f ∷ fs),
       tt,
-      with_tail (called f ++ each_behind [] called fs) d more (Word (codes "i32") ∷ closed (f ∷ fs))
-          (with_nil (called f) (each_behind [] called fs) d more w),
+      with_tail (called f ++ each_after [] called fs) d more (Word (codes "i32") ∷ closed (f ∷ fs))
+          (with_nil (called f) (each_after [] called fs) d more w),
     )) ts
 calls_by ts false = tt
 
@@ -345,19 +345,19 @@ pub type_told : Begins type_expr Any type_at
 unfolding type_at
 type_told ts =
     told_bind (Starts type_expr Any) ts (calls_at ts) _ (calls_told ts)
-    (λ fs e. told_behind (Starts type_expr Any) (each_behind [] called fs.0) fs.1 ts _ (calls_takes ts fs e)
-    (told_word (λ d. Starts type_expr Any (each_behind [] called fs.0 ++ d)) wanted.Type fs.1 _ (
+    (λ fs e. told_after (Starts type_expr Any) (each_after [] called fs.0) fs.1 ts _ (calls_takes ts fs e)
+    (told_word (λ d. Starts type_expr Any (each_after [] called fs.0 ++ d)) wanted.Type fs.1 _ (
       a_type fs.0,
       Word (codes "i32") ∷ closed fs.0,
       tt,
-      sym (append_assoc (each_behind [] called fs.0) [] (Word (codes "i32") ∷ closed fs.0)),
+      sym (append_assoc (each_after [] called fs.0) [] (Word (codes "i32") ∷ closed fs.0)),
     )
-    (λ w. told_bind (λ d. Starts type_expr Any (each_behind [] called fs.0 ++ Word w.0 ∷ d)) w.1 (closed_at (length fs.0) w.1) _
-    (closed_told fs.0 (λ d. Starts type_expr Any (each_behind [] called fs.0 ++ Word w.0 ∷ d)) w.1
+    (λ w. told_bind (λ d. Starts type_expr Any (each_after [] called fs.0 ++ Word w.0 ∷ d)) w.1 (closed_at (length fs.0) w.1) _
+    (closed_told fs.0 (λ d. Starts type_expr Any (each_after [] called fs.0 ++ Word w.0 ∷ d)) w.1
     (λ d more c. (
       record { functions = fs.0; word = w.0 },
       more,
       tt,
-      with_front_of (each_behind [] called fs.0) (Word w.0 ∷ closed fs.0) (Word w.0 ∷ d) more (ap (λ (u : List Token). Word w.0 ∷ u) c),
+      with_front_of (each_after [] called fs.0) (Word w.0 ∷ closed fs.0) (Word w.0 ∷ d) more (ap (λ (u : List Token). Word w.0 ∷ u) c),
     )))
     (λ r c. tt))))

@@ -29,7 +29,7 @@ use Rattle.meta_file_syntax.specs.declared.insts.Property.TheVariants as propert
 use Rattle.meta_file_syntax.specs.declared.items.Item.{Item}
 use Rattle.meta_file_syntax.specs.declared.items.Item.TheVariants as item
 use Rattle.meta_file_syntax.specs.Words.{dimension_text, dimension_of, property_of}
-use Rattle.meta_file_syntax.specs.Spelling.{docs, name, comment, truth, number, each_behind, comma, listed, named, type_expr, up_to, span}
+use Rattle.meta_file_syntax.specs.Spelling.{docs, name, comment, truth, number, each_after, comma, listed, named, type_expr, up_to, span}
 use Rattle.meta_file_syntax.specs.Spelling.{part_members, set_part, set_expr, enum_value, kind_sort, field_name}
 use Rattle.meta_file_syntax.specs.Spelling.{slot, format_slots, operand, outputs, mark, mark_list}
 use Rattle.meta_file_syntax.specs.Spelling.{spelled}
@@ -45,7 +45,7 @@ use Rattle.meta_file_reader.specs.SetReading.{variable_at, type_item_at, type_at
 use Rattle.meta_file_reader.specs.SetReading.{field_at}
 use Rattle.meta_file_reader.specs.SetReading.{kind_item_at, designated_at, slot_at, slots_at, format_item_at, operand_at, outputs_at}
 use Rattle.meta_file_reader.specs.SetReading.{mark_at, marks_at, inputs_at, inst_item_at}
-use Rattle.meta_file_reader.specs.Reading.{bool_item_at, num_item_at, enum_item_at, preset_item_at, item_by, item_behind}
+use Rattle.meta_file_reader.specs.Reading.{bool_item_at, num_item_at, enum_item_at, preset_item_at, item_by, item_after}
 use Rattle.meta_file_reader.specs.Reading.{item_at}
 use Rattle.meta_file_reader.specs.Fits.{HighFits, SpanFits, MembersFit, PartFits, SetFits, SlotFits, FirstFits, SlotsFit, Fits}
 use Rattle.meta_file_reader.proofs.PartLaws.{chosen_takes, number_takes, number_fits, comment_takes, docs_takes, word_is, sign_is}
@@ -56,7 +56,7 @@ use Rattle.meta_file_reader.proofs.TypeLaws.{type_takes}
 use Rattle.meta_file_reader.proofs.KindLaws.{value_takes, sort_takes, slot_takes}
 use Rattle.meta_file_reader.proofs.InstLaws.{format_inputs, inputs_takes, outputs_takes, operand_takes, mark_takes}
 use Rattle.meta_file_reader.proofs.SettingLaws.{named_takes}
-use Rattle.meta_file_reader.proofs.Begun.{Starts, Before, Told, Begins, Any, at_front, told_as, told_behind, told_bind, told_part}
+use Rattle.meta_file_reader.proofs.Begun.{Starts, Before, Told, Begins, Any, at_front, told_as, told_after, told_bind, told_part}
 use Rattle.meta_file_reader.proofs.Begun.{with_tail}
 use Rattle.meta_file_reader.proofs.Begun.{with_front_of, with_nil, name_told, word_told, chosen_told, told_name, told_word, told_text}
 use Rattle.meta_file_reader.proofs.Begun.{told_sign, some_told, some_told_by, list_told, type_told}
@@ -79,7 +79,7 @@ high_by : (ts : List Token) (b : Bool) → sign_first 46 ts ≡ b
     → Told {A = Option ℕ × List Token} HighStarts ts (cond b (sign_at 46 (drop 1 ts) >>= λ after. part_number_at wanted.PartNumber after
     >>= λ n. Ok (Some n.0, n.1)) (Ok (None, ts)))
 high_by ts true is =
-    told_behind HighStarts (Sign 46 ∷ []) (drop 1 ts) ts _ (sign_is 46 ts is)
+    told_after HighStarts (Sign 46 ∷ []) (drop 1 ts) ts _ (sign_is 46 ts is)
     (told_sign (λ d. HighStarts (Sign 46 ∷ d)) (wanted.Sign 46) 46 (drop 1 ts) _ (Some 8, Sign 46 ∷ number 8 ∷ [], omega arith, refl)
     (λ after. told_bind (λ d. HighStarts (Sign 46 ∷ Sign 46 ∷ d)) after (part_number_at wanted.PartNumber after) _
     (chosen_told (λ d. HighStarts (Sign 46 ∷ Sign 46 ∷ d)) wanted.PartNumber (number_of 256) after
@@ -96,7 +96,7 @@ span_told w ts =
     let P : List Token → Type 0 = Starts span SpanFits in
     told_bind P ts (part_number_at w ts) _
     (chosen_told P w (number_of 256) ts (record { low = 8; high = None }, number 8 ∷ [], (omega arith, tt), refl))
-    (λ n e. told_behind P (number n.0 ∷ []) n.1 ts _ (number_takes w 256 ts n e)
+    (λ n e. told_after P (number n.0 ∷ []) n.1 ts _ (number_takes w 256 ts n e)
     (told_bind (λ d. P (number n.0 ∷ d)) n.1 (high_at n.1) _
     (told_as HighStarts (λ d. P (number n.0 ∷ d)) n.1 (high_at n.1)
     (λ d s. (record { low = n.0; high = s.0 }, s.1, (number_fits w 256 ts n e, s.2), ap (λ (u : List Token). number n.0 ∷ u) s.3))
@@ -112,7 +112,7 @@ members_by ts false false true =
     told_bind (Starts part_members MembersFit) ts (some_at (span_at wanted.PartNumber) layouts.Numbers ts) _
     (some_told span SpanFits (span_at wanted.PartNumber) layouts.Numbers (span_takes wanted.PartNumber) (span_fits wanted.PartNumber)
     (span_told wanted.PartNumber) (Starts part_members MembersFit)
-    (λ s ss d more all w. (members.Spans (s ∷ ss), more, (omega arith, all), with_nil (span s) (each_behind [] span ss) d more w)) ts)
+    (λ s ss d more all w. (members.Spans (s ∷ ss), more, (omega arith, all), with_nil (span s) (each_after [] span ss) d more w)) ts)
     (λ ss e. tt)
 members_by ts false false false =
     at_front (Starts part_members MembersFit) ts (members.All, Word (codes "all") ∷ [], tt, refl)
@@ -132,7 +132,7 @@ part_told w ts =
       tt,
       refl,
     ))
-    (λ x e. told_behind P (Word (dimension_text x.0) ∷ []) x.1 ts _ (chosen_takes w dimension_of dimension_text dimension_is ts x e)
+    (λ x e. told_after P (Word (dimension_text x.0) ∷ []) x.1 ts _ (chosen_takes w dimension_of dimension_text dimension_is ts x e)
     (told_bind (λ d. P (Word (dimension_text x.0) ∷ d)) x.1 (members_at x.1) _
     (told_as (Starts part_members MembersFit) (λ d. P (Word (dimension_text x.0) ∷ d)) x.1 (members_at x.1)
     (λ d s. (record { dimension = x.0; members = s.0 }, s.1, s.2, ap (λ (u : List Token). Word (dimension_text x.0) ∷ u) s.3))
@@ -143,7 +143,7 @@ set_by : (ts : List Token) (b : Bool) → word_first (codes "like") ts ≡ b
     (cond b (word_at wanted.Type (drop 1 ts) >>= λ w. Ok (sets.Like w.0, w.1))
     (some_at (part_at wanted.Dimension) layouts.Commas ts >>= λ ps. Ok (sets.Parts ps.0, ps.1)))
 set_by ts true is =
-    told_behind (Starts set_expr SetFits) (Word (codes "like") ∷ []) (drop 1 ts) ts _ (word_is (codes "like") ts is)
+    told_after (Starts set_expr SetFits) (Word (codes "like") ∷ []) (drop 1 ts) ts _ (word_is (codes "like") ts is)
     (told_bind (λ d. Starts set_expr SetFits (Word (codes "like") ∷ d)) (drop 1 ts) (word_at wanted.Type (drop 1 ts)) _
     (word_told (λ d. Starts set_expr SetFits (Word (codes "like") ∷ d)) wanted.Type (drop 1 ts)
     (sets.Like a_word, Word a_word ∷ [], tt, refl)) (λ w e. tt))
@@ -155,7 +155,7 @@ set_by ts false is =
       sets.Parts (p ∷ ps),
       more,
       (omega arith, all),
-      with_nil (set_part p) (each_behind comma set_part ps) d more w,
+      with_nil (set_part p) (each_after comma set_part ps) d more w,
     )) ts)
     (λ ps e. tt)
 
@@ -203,7 +203,7 @@ variable_told : (ds : List (List ℕ)) (w : List ℕ) (ts : List Token) → Told
 unfolding variable_at
 variable_told ds w ts =
     let c : Option (List ℕ) = (comment_at ts).0 in
-    told_behind (λ d. OfItem ds key.Type (Word w ∷ d)) (comment (comment_at ts).0) (comment_at ts).1 ts _ (comment_takes ts)
+    told_after (λ d. OfItem ds key.Type (Word w ∷ d)) (comment (comment_at ts).0) (comment_at ts).1 ts _ (comment_takes ts)
     (told_sign (λ d. OfItem ds key.Type (Word w ∷ (comment c ++ d))) (wanted_colon c) 58 (comment_at ts).1 _
     (variable_starts ds w c a_set (comment c ++ []) (Sign 58 ∷ set_expr a_set) tt
     (sym (append_assoc (comment c) [] (Sign 58 ∷ set_expr a_set))))
@@ -216,7 +216,7 @@ variable_told ds w ts =
 either_told : (ds : List (List ℕ)) (w : List ℕ) (ts : List Token) (b : Bool) → sign_first 61 ts ≡ b
     → Told (λ d. OfItem ds key.Type (Word w ∷ d)) ts (cond b (alias_at ds w (drop 1 ts)) (variable_at ds w ts))
 either_told ds w ts true is =
-    told_behind (λ d. OfItem ds key.Type (Word w ∷ d)) (Sign 61 ∷ []) (drop 1 ts) ts (alias_at ds w (drop 1 ts)) (sign_is 61 ts is)
+    told_after (λ d. OfItem ds key.Type (Word w ∷ d)) (Sign 61 ∷ []) (drop 1 ts) ts (alias_at ds w (drop 1 ts)) (sign_is 61 ts is)
     (alias_told ds w (drop 1 ts))
 either_told ds w ts false is = variable_told ds w ts
 
@@ -271,7 +271,7 @@ value_of_told ts =
       ap (λ (u : List Token). Word (codes "value") ∷ Sign 40 ∷ u) (with_tail (type_expr s.0) d s.1 (Sign 41 ∷ []) s.3),
     ))
     (type_told after))
-    (λ t e. told_behind (λ d. SortStarts (Word (codes "value") ∷ Sign 40 ∷ d)) (type_expr t.0) t.1 after _ (type_takes after t e)
+    (λ t e. told_after (λ d. SortStarts (Word (codes "value") ∷ Sign 40 ∷ d)) (type_expr t.0) t.1 after _ (type_takes after t e)
     (told_sign (λ d. SortStarts (Word (codes "value") ∷ Sign 40 ∷ (type_expr t.0 ++ d))) (wanted.Sign 41) 41 t.1 _ (
       sorts.Value t.0,
       Sign 41 ∷ [],
@@ -287,11 +287,11 @@ sort_by : (ts : List Token) (p q r s t : Bool) → word_first (codes "imm_enum")
 sort_by ts true q r s t hr ht = tt
 sort_by ts false true r s t hr ht = tt
 sort_by ts false false true s t hr ht =
-    told_behind SortStarts (Word (codes "imm_enum") ∷ []) (drop 1 ts) ts (imm_enum_at (drop 1 ts)) (word_is (codes "imm_enum") ts hr)
+    told_after SortStarts (Word (codes "imm_enum") ∷ []) (drop 1 ts) ts (imm_enum_at (drop 1 ts)) (word_is (codes "imm_enum") ts hr)
     (imm_enum_told (drop 1 ts))
 sort_by ts false false false true t hr ht = tt
 sort_by ts false false false false true hr ht =
-    told_behind SortStarts (Word (codes "value") ∷ []) (drop 1 ts) ts (value_of_at (drop 1 ts)) (word_is (codes "value") ts ht)
+    told_after SortStarts (Word (codes "value") ∷ []) (drop 1 ts) ts (value_of_at (drop 1 ts)) (word_is (codes "value") ts ht)
     (value_of_told (drop 1 ts))
 sort_by ts false false false false false hr ht = at_front SortStarts ts (sorts.Entity, Word (codes "entity") ∷ [], tt, refl)
 
@@ -303,7 +303,7 @@ field_by : (ts : List Token) (b : Bool) → word_first (codes "field") ts ≡ b
     → Told {A = Option Name × List Token} (Starts field_name Any) ts
     (cond b (name_at wanted.FieldName (drop 1 ts) >>= λ n. Ok (Some n.0, n.1)) (Ok (None, ts)))
 field_by ts true is =
-    told_behind (Starts field_name Any) (Word (codes "field") ∷ []) (drop 1 ts) ts _ (word_is (codes "field") ts is)
+    told_after (Starts field_name Any) (Word (codes "field") ∷ []) (drop 1 ts) ts _ (word_is (codes "field") ts is)
     (told_bind (λ d. Starts field_name Any (Word (codes "field") ∷ d)) (drop 1 ts) (name_at wanted.FieldName (drop 1 ts)) _
     (name_told (λ d. Starts field_name Any (Word (codes "field") ∷ d)) wanted.FieldName (drop 1 ts)
     (Some a_name, name a_name ∷ [], tt, refl)) (λ n e. tt))
@@ -368,7 +368,7 @@ slot_by : (w : Wanted) (ts : List Token) (p q : Bool) → word_first (codes "des
     (word_at w ts >>= λ v. Ok (slots.Kind v.0, v.1))))
 slot_by w ts true q is = tt
 slot_by w ts false true is =
-    told_behind SlotStarts (Word (codes "designated") ∷ []) (drop 1 ts) ts (designated_at (drop 1 ts)) (word_is (codes "designated") ts is)
+    told_after SlotStarts (Word (codes "designated") ∷ []) (drop 1 ts) ts (designated_at (drop 1 ts)) (word_is (codes "designated") ts is)
     (designated_told (drop 1 ts))
 slot_by w ts false false is =
     told_bind SlotStarts ts (word_at w ts) _
@@ -389,7 +389,7 @@ slots_by ts false is =
     some_told_by slot SlotFits FirstGood (slot_at wanted.Slot) layouts.Commas (slot_takes wanted.Slot) (slot_fits wanted.Slot)
     (later_told wanted.Slot) (Starts format_slots SlotsFit) ts (slot_told wanted.Slot ts)
     (λ x e. (slot_fits wanted.Slot ts x e, first_fits x.0 x.1 ts is (slot_takes wanted.Slot ts x e)))
-    (λ s ss d more first all w. (s ∷ ss, more, (first.1, (first.0, all)), with_nil (slot s) (each_behind comma slot ss) d more w))
+    (λ s ss d more first all w. (s ∷ ss, more, (first.1, (first.0, all)), with_nil (slot s) (each_after comma slot ss) d more w))
 
 slots_told : Begins format_slots SlotsFit slots_at
 unfolding slots_at
@@ -409,7 +409,7 @@ format_told ts =
     (an_item [] key.Format (item.Format (record { word = a_word; shown = None; slots = [] })) (Word a_word ∷ Sign 58 ∷ format_slots []) []
     (Word a_word ∷ Sign 58 ∷ format_slots []) tt refl refl)
     (λ w. let c : Option (List ℕ) = (comment_at w.1).0 in
-    told_behind (λ d. P (Word w.0 ∷ d)) (comment (comment_at w.1).0) (comment_at w.1).1 w.1 _ (comment_takes w.1)
+    told_after (λ d. P (Word w.0 ∷ d)) (comment (comment_at w.1).0) (comment_at w.1).1 w.1 _ (comment_takes w.1)
     (told_sign (λ d. P (Word w.0 ∷ (comment c ++ d))) (wanted.Sign 58) 58 (comment_at w.1).1 _
     (format_starts w.0 c [] (comment c ++ []) (Sign 58 ∷ format_slots []) tt
     (sym (append_assoc (comment c) [] (Sign 58 ∷ format_slots []))))
@@ -457,7 +457,7 @@ outputs_by : (ts : List Token) (b : Bool) → sign_first 45 ts ≡ b
     → Told {A = List Operand × List Token} (Starts outputs Any) ts (cond b (sign_or_at wanted.Arrow 62 (drop 1 ts)
     >>= λ after. some_at (operand_at wanted.OperandName) layouts.Commas after) (Ok ([], ts)))
 outputs_by ts true is =
-    told_behind (Starts outputs Any) (Sign 45 ∷ []) (drop 1 ts) ts _ (sign_is 45 ts is)
+    told_after (Starts outputs Any) (Sign 45 ∷ []) (drop 1 ts) ts _ (sign_is 45 ts is)
     (told_sign (λ d. Starts outputs Any (Sign 45 ∷ d)) wanted.Arrow 62 (drop 1 ts) _
     (an_operand a_name a_type ∷ [], Sign 62 ∷ listed operand (an_operand a_name a_type ∷ []), tt, refl)
     (λ after. some_told operand Any (operand_at wanted.OperandName) layouts.Commas (operand_takes wanted.OperandName) (λ us x e. tt)
@@ -466,7 +466,7 @@ outputs_by ts true is =
       o ∷ os,
       more,
       tt,
-      ap (λ (u : List Token). Sign 45 ∷ Sign 62 ∷ u) (with_nil (operand o) (each_behind comma operand os) d more w),
+      ap (λ (u : List Token). Sign 45 ∷ Sign 62 ∷ u) (with_nil (operand o) (each_after comma operand os) d more w),
     )) after))
 outputs_by ts false is = tt
 
@@ -478,7 +478,7 @@ mark_by : (w : Wanted) (ts : List Token) (b : Bool) → word_first (codes "secon
     → Told {A = Mark × List Token} (Starts mark Any) ts (cond b (type_at (drop 1 ts) >>= λ t. Ok (marks.Second t.0, t.1))
     (chosen_at w property_of ts >>= λ p. Ok (marks.Is p.0, p.1)))
 mark_by w ts true is =
-    told_behind (Starts mark Any) (Word (codes "second") ∷ []) (drop 1 ts) ts _ (word_is (codes "second") ts is)
+    told_after (Starts mark Any) (Word (codes "second") ∷ []) (drop 1 ts) ts _ (word_is (codes "second") ts is)
     (told_bind (λ d. Starts mark Any (Word (codes "second") ∷ d)) (drop 1 ts) (type_at (drop 1 ts)) _
     (told_as (Starts type_expr Any) (λ d. Starts mark Any (Word (codes "second") ∷ d)) (drop 1 ts) (type_at (drop 1 ts))
     (λ d s. (marks.Second s.0, s.1, tt, ap (λ (u : List Token). Word (codes "second") ∷ u) s.3)) (type_told (drop 1 ts))) (λ t e. tt))
@@ -495,7 +495,7 @@ marks_by : (ts : List Token) (b : Bool) → sign_first 91 ts ≡ b
     (cond b (list_at (mark_at wanted.Mark) layouts.Brackets (drop 1 ts)
     >>= λ ms. Ok (Some ms.0, ms.1)) (Ok (None, ts)))
 marks_by ts true is =
-    told_behind (Starts mark_list Any) (Sign 91 ∷ []) (drop 1 ts) ts _ (sign_is 91 ts is)
+    told_after (Starts mark_list Any) (Sign 91 ∷ []) (drop 1 ts) ts _ (sign_is 91 ts is)
     (told_bind (λ d. Starts mark_list Any (Sign 91 ∷ d)) (drop 1 ts) (list_at (mark_at wanted.Mark) layouts.Brackets (drop 1 ts)) _
     (list_told mark Any (mark_at wanted.Mark) layouts.Brackets (mark_takes wanted.Mark) (λ us x e. tt) (mark_told wanted.Mark) refl
     (λ d. Starts mark_list Any (Sign 91 ∷ d))
@@ -629,13 +629,13 @@ docs_start ds = (
 )
 
 -- after a keyword
-behind_key : {A : Type 0} (ds : List (List ℕ)) (k : Keyword) (ts : List Token) (r : Result A Fault) → Told (OfItem ds k) ts r
+after_key : {A : Type 0} (ds : List (List ℕ)) (k : Keyword) (ts : List Token) (r : Result A Fault) → Told (OfItem ds k) ts r
     → Told (Documented ds) (Key k ∷ ts) r
-behind_key ds k ts r h = told_behind (Documented ds) (Key k ∷ []) ts (Key k ∷ ts) r refl h
+after_key ds k ts r h = told_after (Documented ds) (Key k ∷ []) ts (Key k ∷ ts) r refl h
 
 then_made : {A B : Type 0} (ds : List (List ℕ)) (k : Keyword) (ts : List Token) (r : Result A Fault) (f : A → B)
     → Told (OfItem ds k) ts r → Told (Documented ds) (Key k ∷ ts) (r >>= λ x. Ok (f x))
-then_made ds k ts r f h = behind_key ds k ts (r >>= λ x. Ok (f x)) (told_bind (OfItem ds k) ts r (λ x. Ok (f x)) h (λ x e. tt))
+then_made ds k ts r f h = after_key ds k ts (r >>= λ x. Ok (f x)) (told_bind (OfItem ds k) ts r (λ x. Ok (f x)) h (λ x e. tt))
 
 format_by : (ds : List (List ℕ)) (ts : List Token) (b : Bool) → (length ds == 0) ≡ b
     → Told {A = Item × List Token} (Documented ds) (Key key.Format ∷ ts) (cond b (format_item_at ts >>= λ x. Ok (item.Format x.0, x.1))
@@ -658,7 +658,7 @@ group_by (d ∷ ds) ts true is = let z : length (d ∷ ds) ≡ 0 = eqb-true (len
 group_by ds ts false is = at_front (Documented ds) (Key key.Group ∷ ts) (docs_start ds)
 
 by_told : (ds : List (List ℕ)) (k : Keyword) (ts : List Token) → Told (Documented ds) (Key k ∷ ts) (item_by ds k ts)
-by_told ds key.Type ts = behind_key ds key.Type ts (type_item_at ds ts) (type_item_told ds ts)
+by_told ds key.Type ts = after_key ds key.Type ts (type_item_at ds ts) (type_item_told ds ts)
 by_told ds key.Kind ts = then_made ds key.Kind ts (kind_item_at ds ts) (λ x. (item.Kind x.0, x.1)) (kind_told ds ts)
 by_told ds key.Format ts = format_by ds ts (length ds == 0) refl
 by_told ds key.Inst ts = then_made ds key.Inst ts (inst_item_at ds ts) (λ x. (item.Inst x.0, x.1)) (inst_told ds ts)
@@ -668,21 +668,21 @@ by_told ds key.Num ts = then_made ds key.Num ts (num_item_at ds ts) (λ x. (item
 by_told ds key.Enum ts = then_made ds key.Enum ts (enum_item_at ds ts) (λ x. (item.Enum x.0, x.1)) (enum_told ds ts)
 by_told ds key.Preset ts = then_made ds key.Preset ts (preset_item_at ds ts) (λ x. (item.Preset x.0, x.1)) (preset_told ds ts)
 
-behind_told : (ds : List (List ℕ)) (ts : List Token) → Told (Documented ds) ts (item_behind ds ts)
-behind_told ds [] = at_front (Documented ds) [] (docs_start ds)
-behind_told ds (Key k ∷ ts) = by_told ds k ts
-behind_told ds (Word w ∷ ts) = at_front (Documented ds) (Word w ∷ ts) (docs_start ds)
-behind_told ds (Quoted t ∷ ts) = at_front (Documented ds) (Quoted t ∷ ts) (docs_start ds)
-behind_told ds (Sign c ∷ ts) = at_front (Documented ds) (Sign c ∷ ts) (docs_start ds)
-behind_told ds (Doc d ∷ ts) = at_front (Documented ds) (Doc d ∷ ts) (docs_start ds)
-behind_told ds (Stray f ∷ ts) = at_front (Documented ds) (Stray f ∷ ts) (docs_start ds)
+after_told : (ds : List (List ℕ)) (ts : List Token) → Told (Documented ds) ts (item_after ds ts)
+after_told ds [] = at_front (Documented ds) [] (docs_start ds)
+after_told ds (Key k ∷ ts) = by_told ds k ts
+after_told ds (Word w ∷ ts) = at_front (Documented ds) (Word w ∷ ts) (docs_start ds)
+after_told ds (Quoted t ∷ ts) = at_front (Documented ds) (Quoted t ∷ ts) (docs_start ds)
+after_told ds (Sign c ∷ ts) = at_front (Documented ds) (Sign c ∷ ts) (docs_start ds)
+after_told ds (Doc d ∷ ts) = at_front (Documented ds) (Doc d ∷ ts) (docs_start ds)
+after_told ds (Stray f ∷ ts) = at_front (Documented ds) (Stray f ∷ ts) (docs_start ds)
 
 -- what stands before a fault begins an item
 pub item_told : Begins spelled Fits item_at
 unfolding item_at
 item_told ts =
-    told_behind (Starts spelled Fits) (docs (docs_at ts).0) (docs_at ts).1 ts (item_behind (docs_at ts).0 (docs_at ts).1) (docs_takes ts)
-    (behind_told (docs_at ts).0 (docs_at ts).1)
+    told_after (Starts spelled Fits) (docs (docs_at ts).0) (docs_at ts).1 ts (item_after (docs_at ts).0 (docs_at ts).1) (docs_takes ts)
+    (after_told (docs_at ts).0 (docs_at ts).1)
 
 fault_told : (P : List Token → Type 0) (ts : List Token) (r : Result (Item × List Token) Fault) (f : Fault) → Told P ts r → r ≡ Err f
     → Before P ts f.left

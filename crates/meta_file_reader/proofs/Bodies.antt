@@ -26,7 +26,7 @@ use Rattle.meta_file_syntax.specs.declared.insts.Mark.{Mark}
 use Rattle.meta_file_syntax.specs.declared.insts.Mark.TheVariants as marks
 use Rattle.meta_file_syntax.specs.declared.items.Item.{Item}
 use Rattle.meta_file_syntax.specs.declared.items.Item.TheVariants as item
-use Rattle.meta_file_syntax.specs.Spelling.{docs, name, comment, truth, each_behind, comma, listed, named, called, closed, type_expr}
+use Rattle.meta_file_syntax.specs.Spelling.{docs, name, comment, truth, each_after, comma, listed, named, called, closed, type_expr}
 use Rattle.meta_file_syntax.specs.Spelling.{up_to}
 use Rattle.meta_file_syntax.specs.Spelling.{span, part_members, set_part, set_expr, type_item, alias_item, enum_value, kind_sort}
 use Rattle.meta_file_syntax.specs.Spelling.{field_name}
@@ -103,15 +103,15 @@ plain_append [] b h g = g
 plain_append (t ∷ ts) b h g = let p = and_parts (is_plain t) (plain ts) h in rw p.0 (plain_append ts b p.1 g)
 
 of_each : {A : Type 0} (between : List Token) (part : A → List Token) → plain between ≡ true → ((x : A) → plain (part x) ≡ true)
-    → (xs : List A) → plain (each_behind between part xs) ≡ true
+    → (xs : List A) → plain (each_after between part xs) ≡ true
 of_each between part h g [] = refl
 of_each between part h g (x ∷ xs) =
-    plain_append between (part x ++ each_behind between part xs) h
-    (plain_append (part x) (each_behind between part xs) (g x) (of_each between part h g xs))
+    plain_append between (part x ++ each_after between part xs) h
+    (plain_append (part x) (each_after between part xs) (g x) (of_each between part h g xs))
 
 of_listed : {A : Type 0} (part : A → List Token) → ((x : A) → plain (part x) ≡ true) → (xs : List A) → plain (listed part xs) ≡ true
 of_listed part g [] = refl
-of_listed part g (x ∷ xs) = plain_append (part x) (each_behind comma part xs) (g x) (of_each comma part refl g xs)
+of_listed part g (x ∷ xs) = plain_append (part x) (each_after comma part xs) (g x) (of_each comma part refl g xs)
 
 of_name : (n : Name) → is_plain (name n) ≡ true
 of_name (names.Plain w) = refl
@@ -136,7 +136,7 @@ of_closed [] = refl
 of_closed (f ∷ fs) = of_closed fs
 
 of_type : (t : TypeExpr) → plain (type_expr t) ≡ true
-of_type t = plain_append (each_behind [] called t.functions) (Word t.word ∷ closed t.functions)
+of_type t = plain_append (each_after [] called t.functions) (Word t.word ∷ closed t.functions)
     (of_each [] called refl of_called t.functions)
     (of_closed t.functions)
 

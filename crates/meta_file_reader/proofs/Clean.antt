@@ -76,15 +76,15 @@ of_squeezed : (ts : List Token) → clean (squeezed ts) ≡ true → clean ts �
 of_squeezed [] h = refl
 of_squeezed (t ∷ ts) h = kept_by t ts (is_comma t && ends_first ts) refl (of_squeezed ts) h
 
-flaw_behind : (ts : List Token) (f : Flaw) → clean (ts ++ Stray f ∷ []) ≡ true → ⊥
-flaw_behind [] f h = absurd cc
-flaw_behind (t ∷ ts) f h = flaw_behind ts f (and_parts (is_clean t) (clean (ts ++ Stray f ∷ [])) h).1
+flaw_after : (ts : List Token) (f : Flaw) → clean (ts ++ Stray f ∷ []) ≡ true → ⊥
+flaw_after [] f h = absurd cc
+flaw_after (t ∷ ts) f h = flaw_after ts f (and_parts (is_clean t) (clean (ts ++ Stray f ∷ [])) h).1
 
 utf8_by : (text : List ℕ) (b : Bool) → is_utf8 text ≡ b
     → clean (squeezed (cond b (tokens_in text) (tokens_in (lines_before text) ++ Stray NotUtf8 ∷ []))) ≡ true → IsUtf8 text
 utf8_by text true e h = IsUtf8-from_is_utf8 text e
 utf8_by text false e h =
-    absurd (flaw_behind (tokens_in (lines_before text)) NotUtf8 (of_squeezed (tokens_in (lines_before text) ++ Stray NotUtf8 ∷ []) h))
+    absurd (flaw_after (tokens_in (lines_before text)) NotUtf8 (of_squeezed (tokens_in (lines_before text) ++ Stray NotUtf8 ∷ []) h))
 
 pub spelled_is_utf8 : (text : List ℕ) (is : List Item) → read_in text ≡ spelled_all is → IsUtf8 text
 spelled_is_utf8 text is e = utf8_by text (is_utf8 text) refl (ap clean e ∙ of_all is)

@@ -29,11 +29,11 @@ use Rattle.meta_file_reader.specs.declared.lists.Layout.{Layout}
 use Rattle.meta_file_reader.specs.declared.lists.Layout.TheVariants as layouts
 use Rattle.meta_file_reader.specs.Parts.{◌>>=◌, wants, name_at, word_at, sign_or_at, sign_at, chosen_at, byte_at, comment_at, docs_at}
 use Rattle.meta_file_reader.specs.Parts.{word_first, sign_first, digit_first}
-use Rattle.meta_file_reader.specs.Lists.{separator_at, part_behind, step_at, with_step, more_at, with_front, some_at}
+use Rattle.meta_file_reader.specs.Lists.{separator_at, part_after, step_at, with_step, more_at, with_front, some_at}
 use Rattle.meta_file_reader.specs.SetReading.{part_number_at, high_at, span_at, members_at, part_at, set_at, wanted_colon, alias_at}
 use Rattle.meta_file_reader.specs.SetReading.{variable_at, type_item_at, type_at, designated_at, slot_at, slots_at, format_item_at}
 use Rattle.meta_file_reader.specs.SetReading.{kind_item_at, inst_item_at}
-use Rattle.meta_file_reader.specs.Reading.{bool_item_at, num_item_at, enum_item_at, preset_item_at, item_by, item_behind, item_at}
+use Rattle.meta_file_reader.specs.Reading.{bool_item_at, num_item_at, enum_item_at, preset_item_at, item_by, item_after, item_at}
 use Rattle.meta_file_reader.specs.Fits.{Every, HighFits, SpanFits, MembersFit, PartFits, SetFits, SlotFits, FirstFits, SlotsFit, Fits}
 use Rattle.meta_file_reader.proofs.PartLaws.{bind_ok, ok_is, number_fits, word_takes, not_word}
 use Rattle.meta_file_reader.proofs.ListLaws.{some_takes}
@@ -53,7 +53,7 @@ abbrev EachGood : {A : Type 0} → (A → Type 0) → List A × List Token → T
 EachGood good x = Every good x.0
 
 part_good : {A : Type 0} (good : A → Type 0) (at : List Token → Result (A × List Token) Fault) → Gets good at → (s : Bool)
-    (rest : List Token) (x : Option A × List Token) → part_behind at s rest ≡ Ok x → OneGood good x
+    (rest : List Token) (x : Option A × List Token) → part_after at s rest ≡ Ok x → OneGood good x
 part_good {A} good at gets true rest x e =
     let a = bind_ok (at rest) (λ y. Ok (Some y.0, y.1)) x e in
     subst (OneGood good) (ok_is (Some a.0.0, a.0.1) x a.2) (gets rest a.0 a.1)
@@ -62,16 +62,16 @@ part_good {A} good at gets false rest x e = subst (OneGood good) (ok_is (None, r
 pub step_good : {A : Type 0} (good : A → Type 0) (at : List Token → Result (A × List Token) Fault) (l : Layout) → Gets good at
     → (ts : List Token) (x : Option A × List Token) → step_at at l ts ≡ Ok x → OneGood good x
 step_good good at l gets ts x e =
-    let a = bind_ok (separator_at l ts) (λ s. part_behind at s.0 s.1) x e in
+    let a = bind_ok (separator_at l ts) (λ s. part_after at s.0 s.1) x e in
     part_good good at gets a.0.0 a.0.1 x a.2
 
 then_good : {A : Type 0} (good : A → Type 0) (o : Option A) (r : List Token) (later : Result (List A × List Token) Fault)
     (x : List A × List Token) → OneGood good (o, r) → ((y : List A × List Token) → later ≡ Ok y → EachGood good y)
     → with_step o r later ≡ Ok x → EachGood good x
-then_good good None r later x one behind e = subst (EachGood good) (ok_is ([], r) x e) tt
-then_good good (Some y) r later x one behind e =
+then_good good None r later x one after e = subst (EachGood good) (ok_is ([], r) x e) tt
+then_good good (Some y) r later x one after e =
     let a = bind_ok later (λ xs. Ok (y ∷ xs.0, xs.1)) x e in
-    subst (EachGood good) (ok_is (y ∷ a.0.0, a.0.1) x a.2) (one, behind a.0 a.1)
+    subst (EachGood good) (ok_is (y ∷ a.0.0, a.0.1) x a.2) (one, after a.0 a.1)
 
 more_good : {A : Type 0} (good : A → Type 0) (at : List Token → Result (A × List Token) Fault) (l : Layout) → Gets good at
     → (n : ℕ) (ts : List Token) (x : List A × List Token) → more_at at l n ts ≡ Ok x → EachGood good x
@@ -279,15 +279,15 @@ by_fits ds key.Num ts x e = wrapped FitsIn (num_item_at ds ts) (λ i. item.Num i
 by_fits ds key.Enum ts x e = wrapped FitsIn (enum_item_at ds ts) (λ i. item.Enum i) x (λ y r. tt) e
 by_fits ds key.Preset ts x e = wrapped FitsIn (preset_item_at ds ts) (λ i. item.Preset i) x (λ y r. tt) e
 
-behind_fits : (ds : List (List ℕ)) → Gets Fits (item_behind ds)
-behind_fits ds [] x e = absurd cc
-behind_fits ds (Key k ∷ ts) x e = by_fits ds k ts x e
-behind_fits ds (Word w ∷ ts) x e = absurd cc
-behind_fits ds (Quoted t ∷ ts) x e = absurd cc
-behind_fits ds (Sign c ∷ ts) x e = absurd cc
-behind_fits ds (Doc d ∷ ts) x e = absurd cc
-behind_fits ds (Stray f ∷ ts) x e = absurd cc
+after_fits : (ds : List (List ℕ)) → Gets Fits (item_after ds)
+after_fits ds [] x e = absurd cc
+after_fits ds (Key k ∷ ts) x e = by_fits ds k ts x e
+after_fits ds (Word w ∷ ts) x e = absurd cc
+after_fits ds (Quoted t ∷ ts) x e = absurd cc
+after_fits ds (Sign c ∷ ts) x e = absurd cc
+after_fits ds (Doc d ∷ ts) x e = absurd cc
+after_fits ds (Stray f ∷ ts) x e = absurd cc
 
 pub item_fits : Gets Fits item_at
 unfolding item_at
-item_fits ts x e = behind_fits (docs_at ts).0 (docs_at ts).1 x e
+item_fits ts x e = after_fits (docs_at ts).0 (docs_at ts).1 x e

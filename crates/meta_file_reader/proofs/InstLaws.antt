@@ -14,7 +14,7 @@ use Rattle.meta_file_syntax.specs.declared.insts.Property.TheVariants as propert
 use Rattle.meta_file_syntax.specs.declared.insts.Mark.{Mark}
 use Rattle.meta_file_syntax.specs.declared.insts.Mark.TheVariants as marks
 use Rattle.meta_file_syntax.specs.declared.insts.InstItem.{InstItem}
-use Rattle.meta_file_syntax.specs.Spelling.{name, comment, each_behind, comma, listed, type_expr, operand, outputs, mark, mark_list}
+use Rattle.meta_file_syntax.specs.Spelling.{name, comment, each_after, comma, listed, type_expr, operand, outputs, mark, mark_list}
 use Rattle.meta_file_syntax.specs.Spelling.{inst_item}
 use Rattle.meta_file_syntax.specs.Words.{property_text, property_table, property_of}
 use Rattle.meta_file_reader.specs.declared.fault.Wanted.{Wanted}
@@ -191,7 +191,7 @@ unfolding outputs_at
 outputs_again [] rest apart = rw apart refl
 outputs_again (o ∷ os) rest apart =
     let end : Ends layouts.Commas rest = rw apart.0 refl in
-    let tail = each_behind comma operand os ++ rest in
+    let tail = each_after comma operand os ++ rest in
     let same : outputs (o ∷ os) ++ rest ≡ Sign 45 ∷ Sign 62 ∷ (operand o ++ tail) = simp append_assoc in
     ap (λ (u : List Token). outputs_at u) same
     ∙ some_again operand (operand_at wanted.OperandName) layouts.Commas AnyOperand OperandApart outputs_listed o os rest
@@ -339,14 +339,14 @@ outputs_parted : (os : List Operand) (ts : List Token) → OutputsApart os (Sign
 outputs_parted [] ts = refl
 outputs_parted (o ∷ os) ts = (refl, last_parted (o ∷ os) 91 ts refl)
 
-behind_outputs : (os : List Operand) (ms : Option (List Mark)) (rest : List Token) → InstApart os ms rest
+after_outputs : (os : List Operand) (ms : Option (List Mark)) (rest : List Token) → InstApart os ms rest
     → OutputsApart os (mark_list ms ++ rest)
-behind_outputs os None rest apart = apart.1
-behind_outputs os (Some ms) rest apart = outputs_parted os ((listed mark ms ++ Sign 93 ∷ []) ++ rest)
+after_outputs os None rest apart = apart.1
+after_outputs os (Some ms) rest apart = outputs_parted os ((listed mark ms ++ Sign 93 ∷ []) ++ rest)
 
-behind_marks : (os : List Operand) (ms : Option (List Mark)) (rest : List Token) → InstApart os ms rest → MarksApart ms rest
-behind_marks os None rest apart = apart.0
-behind_marks os (Some ms) rest apart = tt
+apart_after_marks : (os : List Operand) (ms : Option (List Mark)) (rest : List Token) → InstApart os ms rest → MarksApart ms rest
+apart_after_marks os None rest apart = apart.0
+apart_after_marks os (Some ms) rest apart = tt
 
 -- ---- instructions
 
@@ -396,8 +396,8 @@ inst_again i rest apart =
       name_again wanted.InstName i.name (Sign 58 ∷ Word i.format ∷ Sign 40 ∷ (listed operand i.inputs
           ++ Sign 41 ∷ (outputs i.outputs ++ tail))),
       inputs_again i.format i.inputs (outputs i.outputs ++ tail),
-      outputs_again i.outputs tail (behind_outputs i.outputs i.marks rest apart),
-      marks_again i.marks rest (behind_marks i.outputs i.marks rest apart),
+      outputs_again i.outputs tail (after_outputs i.outputs i.marks rest apart),
+      marks_again i.marks rest (apart_after_marks i.outputs i.marks rest apart),
     ) refl in
     ap (λ (u : List Token). inst_item_at i.docs u) same ∙ read
 

@@ -13,7 +13,7 @@ use Rattle.meta_file_syntax.specs.declared.kinds.KindItem.{KindItem}
 use Rattle.meta_file_syntax.specs.declared.formats.Slot.{Slot}
 use Rattle.meta_file_syntax.specs.declared.formats.Slot.TheVariants as slots
 use Rattle.meta_file_syntax.specs.declared.formats.FormatItem.{FormatItem}
-use Rattle.meta_file_syntax.specs.Spelling.{name, comment, each_behind, comma, listed, type_expr, enum_value, kind_sort, field_name}
+use Rattle.meta_file_syntax.specs.Spelling.{name, comment, each_after, comma, listed, type_expr, enum_value, kind_sort, field_name}
 use Rattle.meta_file_syntax.specs.Spelling.{kind_item, slot, format_slots, format_item}
 use Rattle.meta_file_reader.specs.declared.fault.Fault.{Fault}
 use Rattle.meta_file_reader.specs.declared.fault.Wanted.{Wanted}
@@ -361,7 +361,7 @@ unfolding slots_at
 slots_again [] rest fit apart = refl
 slots_again (s ∷ ss) rest fit apart =
     let end_here : Ends layouts.Commas rest = rw apart refl in
-    let tail = each_behind comma slot ss ++ rest in
+    let tail = each_after comma slot ss ++ rest in
     let same : format_slots (s ∷ ss) ++ rest ≡ slot s ++ tail = simp append_assoc in
     let read : slots_at (slot s ++ tail) ≡ Ok (s ∷ ss, rest) =
     rw (not_none s tail fit.0) (some_again slot (slot_at wanted.Slot) layouts.Commas SlotFits SlotEnds slots_listed s ss rest fit.1

@@ -10,7 +10,7 @@ use Rattle.meta_file_syntax.specs.declared.items.Item.TheVariants as item
 use Rattle.meta_file_reader.specs.declared.fault.Wanted.TheVariants as wanted
 use Rattle.meta_file_reader.specs.Parts.{name_at, docs_at}
 use Rattle.meta_file_reader.specs.SetReading.{format_item_at, kind_item_at, inst_item_at}
-use Rattle.meta_file_reader.specs.Reading.{bool_item_at, num_item_at, enum_item_at, preset_item_at, item_by, item_behind, item_at}
+use Rattle.meta_file_reader.specs.Reading.{bool_item_at, num_item_at, enum_item_at, preset_item_at, item_by, item_after, item_at}
 use Rattle.meta_file_reader.specs.Apart.{Apart}
 use Rattle.meta_file_reader.proofs.ListLaws.{Leaves}
 use Rattle.meta_file_reader.proofs.SetLaws.{type_item_leaves}
@@ -34,15 +34,15 @@ by_leaves ds key.Num ts x e = wrapped ItemApart (num_item_at ds ts) (λ i. item.
 by_leaves ds key.Enum ts x e = wrapped ItemApart (enum_item_at ds ts) (λ i. item.Enum i) x (λ y r. tt) e
 by_leaves ds key.Preset ts x e = wrapped ItemApart (preset_item_at ds ts) (λ i. item.Preset i) x (λ y r. tt) e
 
-behind_leaves : (ds : List (List ℕ)) → Leaves Apart (item_behind ds)
-behind_leaves ds [] x e = absurd cc
-behind_leaves ds (Key k ∷ ts) x e = by_leaves ds k ts x e
-behind_leaves ds (Word w ∷ ts) x e = absurd cc
-behind_leaves ds (Quoted t ∷ ts) x e = absurd cc
-behind_leaves ds (Sign c ∷ ts) x e = absurd cc
-behind_leaves ds (Doc d ∷ ts) x e = absurd cc
-behind_leaves ds (Stray f ∷ ts) x e = absurd cc
+after_leaves : (ds : List (List ℕ)) → Leaves Apart (item_after ds)
+after_leaves ds [] x e = absurd cc
+after_leaves ds (Key k ∷ ts) x e = by_leaves ds k ts x e
+after_leaves ds (Word w ∷ ts) x e = absurd cc
+after_leaves ds (Quoted t ∷ ts) x e = absurd cc
+after_leaves ds (Sign c ∷ ts) x e = absurd cc
+after_leaves ds (Doc d ∷ ts) x e = absurd cc
+after_leaves ds (Stray f ∷ ts) x e = absurd cc
 
 pub item_leaves : Leaves Apart item_at
 unfolding item_at
-item_leaves ts x e = behind_leaves (docs_at ts).0 (docs_at ts).1 x e
+item_leaves ts x e = after_leaves (docs_at ts).0 (docs_at ts).1 x e

@@ -5,7 +5,7 @@ use Rattle.std.specs.Prelude.{◌==◌}
 use Rattle.std.proofs.lemmas.Bool.{eqb-true}
 use Rattle.meta_file_syntax.specs.declared.token.Token.{Token}
 use Rattle.meta_file_syntax.specs.declared.token.Token.TheVariants.{Key, Word, Quoted, Sign, Doc, Stray}
-use Rattle.meta_file_syntax.specs.Spelling.{each_behind, comma, listed}
+use Rattle.meta_file_syntax.specs.Spelling.{each_after, comma, listed}
 use Rattle.meta_file_reader.specs.declared.fault.Fault.{Fault}
 use Rattle.meta_file_reader.specs.declared.fault.Wanted.{Wanted}
 use Rattle.meta_file_reader.specs.declared.fault.Wanted.TheVariants as wanted
@@ -14,7 +14,7 @@ use Rattle.meta_file_reader.specs.declared.lists.Layout.TheVariants as layouts
 use Rattle.meta_file_reader.specs.Parts.{sign_first, digit_first, call_first}
 use Rattle.meta_file_reader.specs.Fits.{Every}
 use Rattle.meta_file_reader.specs.Apart.{OfLast}
-use Rattle.meta_file_reader.specs.Lists.{comma_or, separator_at, part_behind, step_at, with_step, more_at, with_front, some_at}
+use Rattle.meta_file_reader.specs.Lists.{comma_or, separator_at, part_after, step_at, with_step, more_at, with_front, some_at}
 use Rattle.meta_file_reader.specs.Lists.{closes_first}
 use Rattle.meta_file_reader.specs.Lists.{list_at}
 use Rattle.meta_file_reader.proofs.PartLaws.{bind_ok, ok_is, Shorter, shorter_bind, sign_is, drop_less}
@@ -117,7 +117,7 @@ StepTaken part l ts (Some y, rest) = ts ≡ separator l ++ (part y ++ rest)
 
 part_takes : {A : Type 0} (part : A → List Token) (at : List Token → Result (A × List Token) Fault) (l : Layout) → Takes part at
     → (ts : List Token) (s : Bool) (rest : List Token) (x : Option A × List Token) → Parted (separator l) (closing l) ts (s, rest)
-    → part_behind at s rest ≡ Ok x → StepTaken part l ts x
+    → part_after at s rest ≡ Ok x → StepTaken part l ts x
 part_takes {A} part at l takes ts true rest x parted e =
     let a = bind_ok (at rest) (λ y. Ok (Some y.0, y.1)) x e in
     subst (StepTaken part l ts) (ok_is (Some a.0.0, a.0.1) x a.2) (parted
@@ -127,19 +127,19 @@ part_takes {A} part at l takes ts false rest x parted e = subst (StepTaken part 
 pub step_takes : {A : Type 0} (part : A → List Token) (at : List Token → Result (A × List Token) Fault) (l : Layout) → Takes part at
     → (ts : List Token) (x : Option A × List Token) → step_at at l ts ≡ Ok x → StepTaken part l ts x
 step_takes part at l takes ts x e =
-    let a = bind_ok (separator_at l ts) (λ s. part_behind at s.0 s.1) x e in
+    let a = bind_ok (separator_at l ts) (λ s. part_after at s.0 s.1) x e in
     part_takes part at l takes ts a.0.0 a.0.1 x (separator_takes l ts a.0 a.1) a.2
 
 abbrev MoreTaken : {A : Type 0} → (A → List Token) → Layout → List Token → List A × List Token → Type 0
-MoreTaken part l ts x = ts ≡ each_behind (separator l) part x.0 ++ (closing l ++ x.1)
+MoreTaken part l ts x = ts ≡ each_after (separator l) part x.0 ++ (closing l ++ x.1)
 
 more_step : {A : Type 0} (part : A → List Token) (l : Layout) (ts : List Token) (o : Option A) (r : List Token)
     (later : Result (List A × List Token) Fault) (x : List A × List Token) → StepTaken part l ts (o, r)
     → ((y : List A × List Token) → later ≡ Ok y → MoreTaken part l r y) → with_step o r later ≡ Ok x → MoreTaken part l ts x
-more_step part l ts None r later x taken behind e = subst (MoreTaken part l ts) (ok_is ([], r) x e) taken
-more_step part l ts (Some y) r later x taken behind e =
+more_step part l ts None r later x taken after e = subst (MoreTaken part l ts) (ok_is ([], r) x e) taken
+more_step part l ts (Some y) r later x taken after e =
     let a = bind_ok later (λ xs. Ok (y ∷ xs.0, xs.1)) x e in
-    let rest : r ≡ each_behind (separator l) part a.0.0 ++ (closing l ++ a.0.1) = behind a.0 a.1 in
+    let rest : r ≡ each_after (separator l) part a.0.0 ++ (closing l ++ a.0.1) = after a.0 a.1 in
     subst (MoreTaken part l ts) (ok_is (y ∷ a.0.0, a.0.1) x a.2) (taken
     ∙ ap (λ (u : List Token). separator l ++ (part y ++ u)) rest ∙ simp append_assoc)
 
@@ -155,7 +155,7 @@ more_takes part at l takes (suc n) ts x e =
 -- one part and more
 abbrev pub SomeTaken : {A : Type 0} → (A → List Token) → Layout → List Token → List A × List Token → Type 0
 SomeTaken {A} part l ts x = (y : A) × (ys : List A) × (x.0 ≡ y ∷ ys)
-    × (ts ≡ part y ++ (each_behind (separator l) part ys ++ (closing l ++ x.1)))
+    × (ts ≡ part y ++ (each_after (separator l) part ys ++ (closing l ++ x.1)))
 
 pub some_takes : {A : Type 0} (part : A → List Token) (at : List Token → Result (A × List Token) Fault) (l : Layout) → Takes part at
     → (ts : List Token) (x : List A × List Token) → some_at at l ts ≡ Ok x → SomeTaken part l ts x
@@ -171,19 +171,19 @@ ListTaken part l ts x = ts ≡ listed part x.0 ++ (closing l ++ x.1)
 
 -- the parts of a list with nothing between them
 pub some_rows : {A : Type 0} (part : A → List Token) (l : Layout) (ts : List Token) (x : List A × List Token) → separator l ≡ []
-    → closing l ≡ [] → SomeTaken part l ts x → Taken (each_behind [] part) ts x
+    → closing l ≡ [] → SomeTaken part l ts x → Taken (each_after [] part) ts x
 some_rows part l ts x nothing endless s =
-    let whole : ts ≡ each_behind [] part (s.0 ∷ s.1) ++ x.1 = s.3
-    ∙ ap (λ (u : List Token). part s.0 ++ (each_behind u part s.1 ++ (closing l ++ x.1))) nothing
-    ∙ ap (λ (u : List Token). part s.0 ++ (each_behind [] part s.1 ++ (u ++ x.1))) endless ∙ simp append_assoc in
-    whole ∙ ap (λ ys. each_behind [] part ys ++ x.1) (sym s.2)
+    let whole : ts ≡ each_after [] part (s.0 ∷ s.1) ++ x.1 = s.3
+    ∙ ap (λ (u : List Token). part s.0 ++ (each_after u part s.1 ++ (closing l ++ x.1))) nothing
+    ∙ ap (λ (u : List Token). part s.0 ++ (each_after [] part s.1 ++ (u ++ x.1))) endless ∙ simp append_assoc in
+    whole ∙ ap (λ ys. each_after [] part ys ++ x.1) (sym s.2)
 
 -- the parts of a list with commas
 pub some_listed : {A : Type 0} (part : A → List Token) (l : Layout) (ts : List Token) (x : List A × List Token) → separator l ≡ comma
     → SomeTaken part l ts x → ListTaken part l ts x
 some_listed part l ts x commas s =
     let whole : ts ≡ listed part (s.0 ∷ s.1) ++ (closing l ++ x.1) = s.3
-    ∙ ap (λ (u : List Token). part s.0 ++ (each_behind u part s.1 ++ (closing l ++ x.1))) commas ∙ simp append_assoc in
+    ∙ ap (λ (u : List Token). part s.0 ++ (each_after u part s.1 ++ (closing l ++ x.1))) commas ∙ simp append_assoc in
     whole ∙ ap (λ ys. listed part ys ++ (closing l ++ x.1)) (sym s.2)
 
 close_is : (l : Layout) (ts : List Token) → closes_first l ts ≡ true → ts ≡ closing l ++ drop 1 ts
@@ -209,10 +209,10 @@ list_takes part at l takes commas ts x e = list_by part at l takes commas ts x (
 abbrev pub Keeps : {A : Type 0} → (List Token → Result (A × List Token) Fault) → Type 0
 Keeps at = (ts : List Token) → Shorter ts (at ts)
 
-part_behind_within : {A : Type 0} (at : List Token → Result (A × List Token) Fault) → Keeps at → (s : Bool) (ts : List Token)
-    → Shorter ts (part_behind at s ts)
-part_behind_within at keeps true ts = shorter_bind ts (at ts) (λ y. Ok (Some y.0, y.1)) (keeps ts) (λ y. omega arith)
-part_behind_within at keeps false ts = omega arith
+part_after_within : {A : Type 0} (at : List Token → Result (A × List Token) Fault) → Keeps at → (s : Bool) (ts : List Token)
+    → Shorter ts (part_after at s ts)
+part_after_within at keeps true ts = shorter_bind ts (at ts) (λ y. Ok (Some y.0, y.1)) (keeps ts) (λ y. omega arith)
+part_after_within at keeps false ts = omega arith
 
 more_step_within : {A : Type 0} (o : Option A) (r : List Token) (later : Result (List A × List Token) Fault) → Shorter r later
     → Shorter r (with_step o r later)
@@ -225,7 +225,7 @@ unfolding more_at
 more_within at l keeps zero ts = omega arith
 more_within at l keeps (suc n) ts =
     shorter_bind ts (step_at at l ts) (λ x. with_step x.0 x.1 (more_at at l n x.1)) (shorter_bind ts (separator_at l ts)
-    (λ s. part_behind at s.0 s.1) (separator_within l ts) (λ s. part_behind_within at keeps s.0 s.1))
+    (λ s. part_after at s.0 s.1) (separator_within l ts) (λ s. part_after_within at keeps s.0 s.1))
     (λ x. more_step_within x.0 x.1 (more_at at l n x.1) (more_within at l keeps n x.1))
 
 pub some_within : {A : Type 0} (at : List Token → Result (A × List Token) Fault) (l : Layout) → Keeps at → (ts : List Token)
@@ -265,13 +265,13 @@ Ends l rest = separator_at l (closing l ++ rest) ≡ Ok (false, rest)
 abbrev pub LastFree : {A : Type 0} → Layout → (A → List Token → Type 0) → List Token → List A → Type 0
 LastFree l Free rest xs = OfLast (λ x. Free x (closing l ++ rest)) xs
 
-behind_free : {A : Type 0} (part : A → List Token) (at : List Token → Result (A × List Token) Fault) (l : Layout) (Good : A → Type 0)
+after_free : {A : Type 0} (part : A → List Token) (at : List Token → Result (A × List Token) Fault) (l : Layout) (Good : A → Type 0)
     (Free : A → List Token → Type 0) → Again part at l Good Free → (x : A) (xs : List A) (rest : List Token)
-    → LastFree l Free rest (x ∷ xs) → Free x (each_behind (separator l) part xs ++ (closing l ++ rest))
-behind_free part at l Good Free laws x [] rest last = last
-behind_free part at l Good Free laws x (y ∷ ys) rest last =
-    let tail = each_behind (separator l) part ys ++ (closing l ++ rest) in
-    let same : separator l ++ (part y ++ tail) ≡ each_behind (separator l) part (y ∷ ys) ++ (closing l ++ rest) = simp append_assoc in
+    → LastFree l Free rest (x ∷ xs) → Free x (each_after (separator l) part xs ++ (closing l ++ rest))
+after_free part at l Good Free laws x [] rest last = last
+after_free part at l Good Free laws x (y ∷ ys) rest last =
+    let tail = each_after (separator l) part ys ++ (closing l ++ rest) in
+    let same : separator l ++ (part y ++ tail) ≡ each_after (separator l) part (y ∷ ys) ++ (closing l ++ rest) = simp append_assoc in
     subst (Free x) same (laws.parted x y tail)
 
 later_last : {A : Type 0} (Good : A → Type 0) (x : A) (xs : List A) → OfLast Good (x ∷ xs) → OfLast Good xs
@@ -281,14 +281,14 @@ later_last Good x (y ∷ ys) last = last
 more_again : {A : Type 0} (part : A → List Token) (at : List Token → Result (A × List Token) Fault) (l : Layout) (Good : A → Type 0)
     (Free : A → List Token → Type 0) → Again part at l Good Free → (xs : List A) (n : ℕ) (rest : List Token) → Every Good xs
     → LastFree l Free rest xs → Ends l rest → length xs < n
-    → more_at at l n (each_behind (separator l) part xs ++ (closing l ++ rest)) ≡ Ok (xs, rest)
+    → more_at at l n (each_after (separator l) part xs ++ (closing l ++ rest)) ≡ Ok (xs, rest)
 unfolding more_at
 more_again part at l Good Free laws xs zero rest good last end lt = absurd (omega arith)
 more_again part at l Good Free laws [] (suc n) rest good last end lt = rw end refl
 more_again part at l Good Free laws (x ∷ xs) (suc n) rest good last end lt =
     let few : length xs < n = omega arith in
-    let tail = each_behind (separator l) part xs ++ (closing l ++ rest) in
-    let free : Free x tail = behind_free part at l Good Free laws x xs rest last in
+    let tail = each_after (separator l) part xs ++ (closing l ++ rest) in
+    let free : Free x tail = after_free part at l Good Free laws x xs rest last in
     let later = later_last (λ y. Free y (closing l ++ rest)) x xs last in
     let one : more_at at l (suc n) (separator l ++ (part x ++ tail)) ≡ Ok (x ∷ xs, rest) =
     rw (laws.follows x tail good.0, laws.again x tail good.0 free, more_again part at l Good Free laws xs n rest good.1 later end few) refl
@@ -296,26 +296,26 @@ more_again part at l Good Free laws (x ∷ xs) (suc n) rest good last end lt =
     ap (λ (u : List Token). more_at at l (suc n) u) (simp append_assoc) ∙ one
 
 as_long : {A : Type 0} (part : A → List Token) (between : List Token) (xs : List A) → ((x : A) → 0 < length (part x))
-    → length xs ≤ length (each_behind between part xs)
+    → length xs ≤ length (each_after between part xs)
 as_long part between [] some = omega arith
 as_long part between (x ∷ xs) some =
     let few = as_long part between xs some in
     let one = some x in
-    omega (arith, length-append between (part x ++ each_behind between part xs), length-append (part x) (each_behind between part xs))
+    omega (arith, length-append between (part x ++ each_after between part xs), length-append (part x) (each_after between part xs))
 
 pub some_again : {A : Type 0} (part : A → List Token) (at : List Token → Result (A × List Token) Fault) (l : Layout) (Good : A → Type 0)
     (Free : A → List Token → Type 0) → Again part at l Good Free → (x : A) (xs : List A) (rest : List Token) → Every Good (x ∷ xs)
     → LastFree l Free rest (x ∷ xs) → Ends l rest
-    → some_at at l (part x ++ (each_behind (separator l) part xs ++ (closing l ++ rest))) ≡ Ok (x ∷ xs, rest)
+    → some_at at l (part x ++ (each_after (separator l) part xs ++ (closing l ++ rest))) ≡ Ok (x ∷ xs, rest)
 unfolding some_at
 some_again part at l Good Free laws x xs rest good last end =
-    let tail = each_behind (separator l) part xs ++ (closing l ++ rest) in
-    let free : Free x tail = behind_free part at l Good Free laws x xs rest last in
+    let tail = each_after (separator l) part xs ++ (closing l ++ rest) in
+    let free : Free x tail = after_free part at l Good Free laws x xs rest last in
     let later = later_last (λ y. Free y (closing l ++ rest)) x xs last in
     let few : length xs < length (part x ++ tail) = (
     let one = laws.some x in
     let all = as_long part (separator l) xs laws.some in
-    omega (arith, length-append (part x) tail, length-append (each_behind (separator l) part xs) (closing l ++ rest))
+    omega (arith, length-append (part x) tail, length-append (each_after (separator l) part xs) (closing l ++ rest))
     ) in
     rw (laws.again x tail good.0 free, more_again part at l Good Free laws xs (length (part x ++ tail)) rest good.1 later end few) refl
 
@@ -328,9 +328,9 @@ pub list_again : {A : Type 0} (part : A → List Token) (at : List Token → Res
 unfolding list_at
 list_again part at l Good Free laws commas closes one [] rest good last end = rw (closes rest, one rest) refl
 list_again part at l Good Free laws commas closes one (x ∷ xs) rest good last end =
-    let tail = each_behind (separator l) part xs ++ (closing l ++ rest) in
+    let tail = each_after (separator l) part xs ++ (closing l ++ rest) in
     let same : listed part (x ∷ xs) ++ (closing l ++ rest) ≡ part x ++ tail =
-    ap (λ (u : List Token). (part x ++ each_behind u part xs) ++ (closing l ++ rest)) (sym commas) ∙ simp append_assoc in
+    ap (λ (u : List Token). (part x ++ each_after u part xs) ++ (closing l ++ rest)) (sym commas) ∙ simp append_assoc in
     let read : list_at at l (part x ++ tail) ≡ Ok (x ∷ xs, rest) =
     rw (laws.opens x tail) (some_again part at l Good Free laws x xs rest good last end) in
     ap (λ (u : List Token). list_at at l u) same ∙ read
@@ -377,7 +377,7 @@ StepLeaves Free l ts (Some y, rest) = Free y rest
 
 part_leaves : {A : Type 0} (Free : A → List Token → Type 0) (at : List Token → Result (A × List Token) Fault) (l : Layout) → closing l ≡ []
     → Leaves Free at → (ts : List Token) (s : Bool) (rest : List Token) (x : Option A × List Token) → separator_at l ts ≡ Ok (s, rest)
-    → part_behind at s rest ≡ Ok x → StepLeaves Free l ts x
+    → part_after at s rest ≡ Ok x → StepLeaves Free l ts x
 part_leaves {A} Free at l endless leaves ts true rest x parted e =
     let a = bind_ok (at rest) (λ y. Ok (Some y.0, y.1)) x e in
     subst (StepLeaves Free l ts) (ok_is (Some a.0.0, a.0.1) x a.2) (leaves rest a.0 a.1)
@@ -389,7 +389,7 @@ part_leaves {A} Free at l endless leaves ts false rest x parted e =
 step_leaves : {A : Type 0} (Free : A → List Token → Type 0) (at : List Token → Result (A × List Token) Fault) (l : Layout) → closing l ≡ []
     → Leaves Free at → (ts : List Token) (x : Option A × List Token) → step_at at l ts ≡ Ok x → StepLeaves Free l ts x
 step_leaves Free at l endless leaves ts x e =
-    let a = bind_ok (separator_at l ts) (λ s. part_behind at s.0 s.1) x e in
+    let a = bind_ok (separator_at l ts) (λ s. part_after at s.0 s.1) x e in
     part_leaves Free at l endless leaves ts a.0.0 a.0.1 x a.1 a.2
 
 -- after this part
@@ -400,11 +400,11 @@ then_leaves : {A : Type 0} (Free : A → List Token → Type 0) (l : Layout) (y 
     (later : Result (List A × List Token) Fault) (x : List A × List Token) → Free y ts → StepLeaves Free l ts (o, r)
     → ((z : A) (v : List A × List Token) → Free z r → later ≡ Ok v → MoreLeaves Free l z v) → with_step o r later ≡ Ok x
     → MoreLeaves Free l y x
-then_leaves Free l y ts None r later x free left behind e =
+then_leaves Free l y ts None r later x free left after e =
     subst (MoreLeaves Free l y) (ok_is ([], r) x e) (left.1, subst (Free y) left.0 free)
-then_leaves Free l y ts (Some z) r later x free left behind e =
+then_leaves Free l y ts (Some z) r later x free left after e =
     let a = bind_ok later (λ xs. Ok (z ∷ xs.0, xs.1)) x e in
-    subst (MoreLeaves Free l y) (ok_is (z ∷ a.0.0, a.0.1) x a.2) (behind z a.0 left a.1)
+    subst (MoreLeaves Free l y) (ok_is (z ∷ a.0.0, a.0.1) x a.2) (after z a.0 left a.1)
 
 more_leaves : {A : Type 0} (Free : A → List Token → Type 0) (at : List Token → Result (A × List Token) Fault) (l : Layout) → closing l ≡ []
     → Leaves Free at → (n : ℕ) (y : A) (ts : List Token) (x : List A × List Token) → Free y ts → more_at at l n ts ≡ Ok x

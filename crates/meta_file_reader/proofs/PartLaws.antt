@@ -151,7 +151,7 @@ sign_takes w s (Quoted t ∷ ts) rest e = absurd cc
 sign_takes w s (Sign c ∷ ts) rest e =
     let g = guard_ok (c == s) _ ts rest e in
     let same : c ≡ s = eqb-true c s g.0 in
-    let behind : ts ≡ rest = g.1 in
+    let after : ts ≡ rest = g.1 in
     cc
 sign_takes w s (Doc d ∷ ts) rest e = absurd cc
 sign_takes w s (Stray f ∷ ts) rest e = absurd cc
@@ -190,7 +190,7 @@ chosen_takes w meaning text told (Key k ∷ ts) x e = absurd cc
 chosen_takes w meaning text told (Word v ∷ ts) x e =
     let p = chosen_word w v ts x (meaning v) e in
     let same : v ≡ text x.0 = told v x.0 p.0 in
-    let behind : ts ≡ x.1 = p.1 in
+    let after : ts ≡ x.1 = p.1 in
     cc
 chosen_takes w meaning text told (Quoted t ∷ ts) x e = absurd cc
 chosen_takes w meaning text told (Sign c ∷ ts) x e = absurd cc

@@ -22,7 +22,7 @@ use Rattle.meta_file_syntax.specs.declared.types.TypeItem.{TypeItem}
 use Rattle.meta_file_syntax.specs.declared.types.AliasItem.{AliasItem}
 use Rattle.meta_file_syntax.specs.declared.items.Item.{Item}
 use Rattle.meta_file_syntax.specs.declared.items.Item.TheVariants as item
-use Rattle.meta_file_syntax.specs.Spelling.{docs, comment, number, each_behind, comma, listed, up_to, span, part_members, set_part}
+use Rattle.meta_file_syntax.specs.Spelling.{docs, comment, number, each_after, comma, listed, up_to, span, part_members, set_part}
 use Rattle.meta_file_syntax.specs.Spelling.{set_expr, type_item, alias_item, spelled}
 use Rattle.meta_file_syntax.specs.Words.{dimension_text, dimension_table, dimension_of}
 use Rattle.meta_file_reader.specs.declared.fault.Wanted.{Wanted}
@@ -171,9 +171,9 @@ unfolding members_at
 members_within ts = members_within_by ts (word_first (codes "all") ts) (word_first (codes "none") ts) (digit_first ts)
 
 some_spans : (s : Span) (ss : List Span) (rest : List Token) → Every SpanFits (s ∷ ss) → MembersApart (members.Spans (s ∷ ss)) rest
-    → some_at (span_at wanted.PartNumber) layouts.Numbers (each_behind [] span (s ∷ ss) ++ rest) ≡ Ok (s ∷ ss, rest)
+    → some_at (span_at wanted.PartNumber) layouts.Numbers (each_after [] span (s ∷ ss) ++ rest) ≡ Ok (s ∷ ss, rest)
 some_spans s ss rest fit apart =
-    let same : each_behind [] span (s ∷ ss) ++ rest ≡ span s ++ (each_behind [] span ss ++ rest) = simp append_assoc in
+    let same : each_after [] span (s ∷ ss) ++ rest ≡ span s ++ (each_after [] span ss ++ rest) = simp append_assoc in
     ap (λ (u : List Token). some_at (span_at wanted.PartNumber) layouts.Numbers u) same
     ∙ some_again span (span_at wanted.PartNumber) layouts.Numbers SpanFits SpanApart spans_again s ss rest fit apart.1
     (spans_end rest apart.0)
@@ -290,7 +290,7 @@ not_like dimensions.Floats = refl
 some_parts : (p : Part) (ps : List Part) (rest : List Token) → Every PartFits (p ∷ ps) → SetApart (sets.Parts (p ∷ ps)) rest
     → some_at (part_at wanted.Dimension) layouts.Commas (listed set_part (p ∷ ps) ++ rest) ≡ Ok (p ∷ ps, rest)
 some_parts p ps rest fit apart =
-    let same : listed set_part (p ∷ ps) ++ rest ≡ set_part p ++ (each_behind comma set_part ps ++ rest) = simp append_assoc in
+    let same : listed set_part (p ∷ ps) ++ rest ≡ set_part p ++ (each_after comma set_part ps ++ rest) = simp append_assoc in
     ap (λ (u : List Token). some_at (part_at wanted.Dimension) layouts.Commas u) same
     ∙ some_again set_part (part_at wanted.Dimension) layouts.Commas PartFits PartApart parts_again p ps rest fit apart.1
     (parts_end rest apart.0)

@@ -44,7 +44,7 @@ firm_items (suc n) (t ∷ ts) f le e w =
 
 some_left : (ts : List Token) (f : Fault) → FaultCalls ts f → 0 < f.left
 some_left ts f c =
-    let long : length c.0 ≡ length (Word c.3.word ∷ c.3.behind) = ap length c.3.are in
+    let long : length c.0 ≡ length (Word c.3.word ∷ c.3.after) = ap length c.3.are in
     let left : length c.0 ≡ f.left = c.1 in
     omega arith
 
@@ -95,9 +95,9 @@ abbrev EndsIn : List Token → Result (List Item) Fault → Type 0
 EndsIn more (Ok is) = Unit {0}
 EndsIn more (Err g) = g.left ≤ length more
 
-ends_behind : (more : List Token) (i : Item) (r : Result (List Item) Fault) → EndsIn more r → EndsIn more (r >>= λ xs. Ok (i ∷ xs))
-ends_behind more i (Ok is) h = tt
-ends_behind more i (Err g) h = h
+ends_after : (more : List Token) (i : Item) (r : Result (List Item) Fault) → EndsIn more r → EndsIn more (r >>= λ xs. Ok (i ∷ xs))
+ends_after more i (Ok is) h = tt
+ends_after more i (Err g) h = h
 
 ends_by : (m : ℕ) (ts more : List Token) (r : Result (List Item) Fault) → items_at m ts ≡ r → length ts ≤ m → length ts ≤ length more
     → EndsIn more r
@@ -106,7 +106,7 @@ ends_by m ts more (Err g) e few le = let within : g.left ≤ length ts = (all_re
 
 ends_item : (m : ℕ) (more : List Token) (r : Result (Item × List Token) Fault) → Shorter more r
     → ((x : Item × List Token) → r ≡ Ok x → length x.1 ≤ m) → EndsIn more (r >>= λ x. items_at m x.1 >>= λ xs. Ok (x.0 ∷ xs))
-ends_item m more (Ok x) short few = ends_behind more x.0 (items_at m x.1) (ends_by m x.1 more (items_at m x.1) refl (few x refl) short)
+ends_item m more (Ok x) short few = ends_after more x.0 (items_at m x.1) (ends_by m x.1 more (items_at m x.1) refl (few x refl) short)
 ends_item m more (Err g) short few = short
 
 passed_by : (n m : ℕ) (rest more us : List Token) (f : Fault) (r : Result (Item × List Token) Fault) → Near rest more r (item_at us)
@@ -125,7 +125,7 @@ passed_by n m rest more us f (Ok x) near few fits e w left closed later =
     let within : f.left ≤ length x.1 = (all_refused n x.1 f small next).0 in
     let p = near (omega arith) in
     subst (λ (s : Result (Item × List Token) Fault). EndsIn more (s >>= λ y. items_at m y.1 >>= λ xs. Ok (y.0 ∷ xs))) (sym p.2)
-    (ends_behind more x.0 (items_at m (p.0 ++ more))
+    (ends_after more x.0 (items_at m (p.0 ++ more))
     (later p.0 (subst (λ (u : List Token). length u ≤ n) p.1 small) (fits (x.0, p.0 ++ more) p.2)
     (subst (λ (u : List Token). items_at n u ≡ Err f) p.1 next)))
 
@@ -212,9 +212,9 @@ called_there ts f e w =
     subst (λ (u : List Token). CallNone u) (sym last) c.3
 
 -- no items begin with the tokens up to the place and after it
-stuck_behind : (ts : List Token) (f : Fault) (k : ℕ) → items_at (length ts) ts ≡ Err f → length ts - f.left < k → k ≤ length ts
+stuck_after : (ts : List Token) (f : Fault) (k : ℕ) → items_at (length ts) ts ≡ Err f → length ts - f.left < k → k ≤ length ts
     → (f.wanted ≡ wanted.Function → f.left ≡ suc (length ts - k) → ⊥) → BeginItems (take k ts) → ⊥
-stuck_behind ts f k e past within other begin =
+stuck_after ts f k e past within other begin =
     let q = take k ts in
     let rest = drop k ts in
     let whole : q ++ rest ≡ ts = take-append-drop k ts in
@@ -252,13 +252,13 @@ placed ts f e =
           subst (λ (k : ℕ). Placed ts f k) (sym function.1) (
             omega arith,
             begun_by ts f e function.0,
-            λ lt. stuck_behind ts f (length ts - f.left + 1 + 1) e (omega arith) (omega arith) (λ w there. omega arith),
+            λ lt. stuck_after ts f (length ts - f.left + 1 + 1) e (omega arith) (omega arith) (λ w there. omega arith),
           )
       | inr other ↦
           subst (λ (k : ℕ). Placed ts f k) (sym other.1) (
             omega arith,
             r.1.begun,
-            λ lt. stuck_behind ts f (length ts - f.left + 1) e (omega arith) (omega arith) (λ w there. other.0 w),
+            λ lt. stuck_after ts f (length ts - f.left + 1) e (omega arith) (omega arith) (λ w there. other.0 w),
           )
     ]
 
@@ -274,7 +274,7 @@ all_stuck ts f e =
       apart = r.apart;
       longest = r.longest;
       some = r.some;
-      behind = r.behind;
+      after = r.after;
       within = p.0;
       called = called_there ts f e;
       begun = p.1;

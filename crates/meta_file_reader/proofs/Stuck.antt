@@ -15,7 +15,7 @@ use Rattle.meta_file_reader.specs.declared.lists.Layout.{Layout}
 use Rattle.meta_file_reader.specs.declared.lists.Layout.TheVariants as layouts
 use Rattle.meta_file_reader.specs.Parts.{◌>>=◌, wants, name_at, word_at, text_at, sign_or_at, chosen_by, chosen_at, comment_at, docs_at}
 use Rattle.meta_file_reader.specs.Parts.{word_first, sign_first, digit_first, begins_with_digit, call_first}
-use Rattle.meta_file_reader.specs.Lists.{comma_or, separator_at, part_behind, step_at, with_step, more_at, with_front, some_at}
+use Rattle.meta_file_reader.specs.Lists.{comma_or, separator_at, part_after, step_at, with_step, more_at, with_front, some_at}
 use Rattle.meta_file_reader.specs.Lists.{closes_first, list_at}
 use Rattle.meta_file_reader.specs.SetReading.{function_at, calls_at, closed_at, type_at}
 use Rattle.meta_file_reader.specs.Refused.{CallNone}
@@ -40,16 +40,16 @@ Near rest more (Err f) s = length rest < f.left
     × (f.wanted ≡ wanted.Function → f.left ≡ suc (length rest) → sign_first 40 more ≡ false → Shorter more s)
 
 -- the second are the last of the first
-abbrev pub Behind : List Token → List Token → Type 0
-Behind ts us = (d : List Token) × (ts ≡ d ++ us)
+abbrev pub After : List Token → List Token → Type 0
+After ts us = (d : List Token) × (ts ≡ d ++ us)
 
 -- at the fault a word stands that isn't a function, and `(` after it
 abbrev pub FaultCalls : List Token → Fault → Type 0
-FaultCalls ts f = (us : List Token) × (length us ≡ f.left) × Behind ts us × CallNone us
+FaultCalls ts f = (us : List Token) × (length us ≡ f.left) × After ts us × CallNone us
 
 -- What is left is the last of what was there. Where a function is wanted, a word stands that isn't one.
 abbrev pub Firm : {A : Type 0} → List Token → Result (A × List Token) Fault → Type 0
-Firm ts (Ok x) = Behind ts x.1
+Firm ts (Ok x) = After ts x.1
 Firm ts (Err f) = f.wanted ≡ wanted.Function → FaultCalls ts f
 
 abbrev pub Kept : {A : Type 0} → List Token → Result (A × List Token) Fault → Type 0
@@ -72,16 +72,16 @@ near_if : {A : Type 0} (ts rest more : List Token) (r s : Result (A × List Toke
 near_if ts rest more (Ok x) s short h = λ lt. h (omega arith) lt
 near_if ts rest more (Err f) s short h = λ lt. h (omega arith) lt
 
-pub further : (ts us vs : List Token) → Behind ts us → Behind us vs → Behind ts vs
+pub further : (ts us vs : List Token) → After ts us → After us vs → After ts vs
 further ts us vs b c = (b.0 ++ c.0, b.1 ∙ ap (λ (u : List Token). b.0 ++ u) c.1 ∙ sym (append_assoc b.0 c.0 vs))
 
-firm_in : {A : Type 0} (ts us : List Token) (r : Result (A × List Token) Fault) → Behind ts us → Firm us r → Firm ts r
+firm_in : {A : Type 0} (ts us : List Token) (r : Result (A × List Token) Fault) → After ts us → Firm us r → Firm ts r
 firm_in ts us (Ok x) b h = further ts us x.1 b h
 firm_in ts us (Err f) b h = λ e. let g = h e in (g.0, g.1, further ts us g.0 b g.2, g.3)
 
-drop_behind : (ts : List Token) → Behind ts (drop 1 ts)
-drop_behind [] = ([], refl)
-drop_behind (t ∷ ts) = (t ∷ [], refl)
+drop_after : (ts : List Token) → After ts (drop 1 ts)
+drop_after [] = ([], refl)
+drop_after (t ∷ ts) = (t ∷ [], refl)
 
 fails_bind : {A B : Type 0} (s : Result A Fault) (f : A → Result B Fault) → Failed s → Failed (s >>= f)
 fails_bind s f h = (h.0, ap (λ r. r >>= f) h.1)
@@ -91,10 +91,10 @@ kept_bind : {A B : Type 0} (ts : List Token) (r : Result (A × List Token) Fault
 kept_bind ts (Ok x) f h g = (longer x.1 ts (f x) h.0 (g x refl).0, firm_in ts x.1 (f x) h.1 (g x refl).1)
 kept_bind ts (Err e) f h g = h
 
-short_behind : {A B : Type 0} (ts : List Token) (s : Result (A × List Token) Fault) (g : A × List Token → Result (B × List Token) Fault)
+short_after : {A B : Type 0} (ts : List Token) (s : Result (A × List Token) Fault) (g : A × List Token → Result (B × List Token) Fault)
     → Shorter ts s → ((x : A × List Token) → s ≡ Ok x → Shorter x.1 (g x)) → Shorter ts (s >>= g)
-short_behind ts (Ok x) g h k = longer x.1 ts (g x) h (k x refl)
-short_behind ts (Err e) g h k = h
+short_after ts (Ok x) g h k = longer x.1 ts (g x) h (k x refl)
+short_after ts (Err e) g h k = h
 
 -- two readers, one after the other
 pub near_bind : {A B : Type 0} (rest more : List Token) (r s : Result (A × List Token) Fault)
@@ -109,7 +109,7 @@ near_bind {A} {B} rest more (Ok y) s f g near short shorter h =
     (subst (λ (v : Result (A × List Token) Fault). Near rest more (f (y.0, n.0 ++ rest)) (v >>= g)) (sym n.2)
     (h y.0 n.0 (ap (λ (u : List Token). Ok (y.0, u)) n.1) n.2)))
 near_bind rest more (Err d) s f g near short shorter h =
-    λ lt. (λ c. fails_bind s g ((near lt).0 c), λ w e no. short_behind more s g ((near lt).1 w e no) shorter)
+    λ lt. (λ c. fails_bind s g ((near lt).0 c), λ w e no. short_after more s g ((near lt).1 w e no) shorter)
 
 pub local_bind : {A B : Type 0} (at : List Token → Result (A × List Token) Fault) (f : A × List Token → Result (B × List Token) Fault)
     → Local at → ((x : A) → Local (λ ts. f (x, ts))) → Local (λ ts. at ts >>= f)
@@ -147,7 +147,7 @@ made_local at g one = local_bind at (λ x. Ok (g x.0, x.1)) one (λ x. ok_local 
 kept_drop : {A : Type 0} (at : List Token → Result (A × List Token) Fault) → Local at → (ts : List Token) → Kept ts (at (drop 1 ts))
 kept_drop at one ts = (
   longer (drop 1 ts) ts (at (drop 1 ts)) (drop_less ts) (one.keeps (drop 1 ts)).0,
-  firm_in ts (drop 1 ts) (at (drop 1 ts)) (drop_behind ts) (one.keeps (drop 1 ts)).1,
+  firm_in ts (drop 1 ts) (at (drop 1 ts)) (drop_after ts) (one.keeps (drop 1 ts)).1,
 )
 
 near_drop : {A : Type 0} (at : List Token → Result (A × List Token) Fault) → Local at → (q rest more : List Token)
@@ -156,8 +156,8 @@ near_drop at one [] rest more = near_out rest more (at (drop 1 rest)) (at (drop 
 near_drop at one (t ∷ q) rest more = one.near q rest more
 
 -- after the first token
-pub behind_local : {A : Type 0} (at : List Token → Result (A × List Token) Fault) → Local at → Local (λ ts. at (drop 1 ts))
-behind_local at one = record { near = near_drop at one; keeps = kept_drop at one }
+pub after_local : {A : Type 0} (at : List Token → Result (A × List Token) Fault) → Local at → Local (λ ts. at (drop 1 ts))
+after_local at one = record { near = near_drop at one; keeps = kept_drop at one }
 
 -- on tokens that begin with this one, the reader answers as a local one
 abbrev pub LocalOn : {A : Type 0} → (List Token → Result (A × List Token) Fault) → Token → Type 0
@@ -182,7 +182,7 @@ local_cases at none h = record { near = near_cases at none h; keeps = kept_cases
 
 -- this was read of the first token
 pub took : {A : Type 0} (x : A) → Local (λ ts. Ok (x, drop 1 ts))
-took x = behind_local (λ ts. Ok (x, ts)) (ok_local x)
+took x = after_local (λ ts. Ok (x, ts)) (ok_local x)
 
 name_on : (w : Wanted) → Other w → (t : Token) → LocalOn (name_at w) t
 name_on w o (Key k) = (λ ts. wants w ts, wants_local w (o), λ ts. refl)
@@ -240,7 +240,7 @@ chosen_local w o meaning = local_cases (chosen_at w meaning) (omega arith, λ e.
 sign_case : {B : Type 0} (w : Wanted) (c : ℕ) (f : List Token → Result (B × List Token) Fault) → Other w → Local f → (b : Bool)
     → (g : List Token → Result (B × List Token) Fault) × Local g
     × ((ts : List Token) → (cond b (Ok ts) (wants w (Sign c ∷ ts)) >>= f) ≡ g (Sign c ∷ ts))
-sign_case w c f o later true = (λ ts. f (drop 1 ts), behind_local f later, λ ts. refl)
+sign_case w c f o later true = (λ ts. f (drop 1 ts), after_local f later, λ ts. refl)
 sign_case w c f o later false = (λ ts. wants w ts, wants_local w o, λ ts. refl)
 
 sign_on : {B : Type 0} (w : Wanted) (s : ℕ) (f : List Token → Result (B × List Token) Fault) → Other w → Local f
@@ -323,7 +323,7 @@ comment_on : {B : Type 0} (f : Option (List ℕ) → List Token → Result (B ×
     → ((c : Option (List ℕ)) → Local (f c)) → (t : Token) → LocalOn (λ us. f (comment_at us).0 (comment_at us).1) t
 comment_on f later (Key k) = (f None, later None, λ ts. refl)
 comment_on f later (Word v) = (f None, later None, λ ts. refl)
-comment_on f later (Quoted v) = (λ ts. f (Some v) (drop 1 ts), behind_local (f (Some v)) (later (Some v)), λ ts. refl)
+comment_on f later (Quoted v) = (λ ts. f (Some v) (drop 1 ts), after_local (f (Some v)) (later (Some v)), λ ts. refl)
 comment_on f later (Sign c) = (f None, later None, λ ts. refl)
 comment_on f later (Doc d) = (f None, later None, λ ts. refl)
 comment_on f later (Stray e) = (f None, later None, λ ts. refl)
@@ -399,13 +399,13 @@ separator_local layouts.Commas other =
 separator_local layouts.Numbers other = local_cases (λ ts. Ok (digit_first ts, ts)) (omega arith, ([], refl)) number_on
 separator_local layouts.Calls other = absurd (other refl)
 
-part_local : {A : Type 0} (at : List Token → Result (A × List Token) Fault) → Local at → (b : Bool) → Local (part_behind at b)
+part_local : {A : Type 0} (at : List Token → Result (A × List Token) Fault) → Local at → (b : Bool) → Local (part_after at b)
 part_local at one true = made_local at (λ y. Some y) one
 part_local at one false = ok_local None
 
 step_local : {A : Type 0} (at : List Token → Result (A × List Token) Fault) (l : Layout) → Local (separator_at l) → Local at
     → Local (step_at at l)
-step_local at l parts one = local_bind (separator_at l) (λ s. part_behind at s.0 s.1) parts (part_local at one)
+step_local at l parts one = local_bind (separator_at l) (λ s. part_after at s.0 s.1) parts (part_local at one)
 
 -- where one part more was read, fewer tokens are left
 step_eats : {A : Type 0} (part : A → List Token) (at : List Token → Result (A × List Token) Fault) (l : Layout) → Takes part at
@@ -545,14 +545,14 @@ kept_known : {B : Type 0} (n : ℕ) (f : List DerivedFunc → List Token → Res
     → (o : Option DerivedFunc) → function_named w ≡ o → Kept (Word w ∷ ts) (Calls (suc n) f (Word w ∷ ts))
 kept_known {B} n f pass w ts opens later None is =
     subst (λ (r : Result (B × List Token) Fault). Kept (Word w ∷ ts) r) (sym (calls_wrong n f w ts opens is))
-    (omega arith, λ e. (Word w ∷ ts, refl, ([], refl), record { word = w; behind = ts; are = refl; none = is; opens = opens }))
+    (omega arith, λ e. (Word w ∷ ts, refl, ([], refl), record { word = w; after = ts; are = refl; none = is; opens = opens }))
 kept_known {B} n f pass w ts opens later (Some x) is =
     let few = drop_less ts in
     let k = later x in
     subst (λ (r : Result (B × List Token) Fault). Kept (Word w ∷ ts) r) (sym (calls_go n f w ts x opens is)) (
       longer (drop 1 ts) (Word w ∷ ts) (Calls n (λ xs. f (x ∷ xs)) (drop 1 ts)) (omega arith) k.0,
       firm_in (Word w ∷ ts) (drop 1 ts) (Calls n (λ xs. f (x ∷ xs)) (drop 1 ts))
-          (further (Word w ∷ ts) ts (drop 1 ts) (Word w ∷ [], refl) (drop_behind ts)) k.1,
+          (further (Word w ∷ ts) ts (drop 1 ts) (Word w ∷ [], refl) (drop_after ts)) k.1,
     )
 
 kept_word : {B : Type 0} (n : ℕ) (f : List DerivedFunc → List Token → Result (B × List Token) Fault) → Passes f → (w : List ℕ)
@@ -689,7 +689,7 @@ first_call l (Err f) = refl
 
 calls_by : (ts : List Token) (b : Bool)
     → cond b (some_at (function_at wanted.Function) layouts.Calls ts) (Ok ([], ts))
-    ≡ (part_behind (function_at wanted.Function) b ts
+    ≡ (part_after (function_at wanted.Function) b ts
     >>= λ x. with_step x.0 x.1 (more_at (function_at wanted.Function) layouts.Calls (length ts) x.1))
 unfolding some_at
 calls_by ts true = first_call (length ts) (function_at wanted.Function ts)

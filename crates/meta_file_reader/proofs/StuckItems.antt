@@ -27,12 +27,12 @@ use Rattle.meta_file_reader.specs.SetReading.{part_number_at, high_at, span_at, 
 use Rattle.meta_file_reader.specs.SetReading.{variable_at, type_item_at, type_at, enum_value_at, imm_enum_at, value_of_at, sort_at}
 use Rattle.meta_file_reader.specs.SetReading.{field_at, kind_item_at, designated_at, slot_at, slots_at, format_item_at, operand_at}
 use Rattle.meta_file_reader.specs.SetReading.{outputs_at, mark_at, marks_at, inputs_at, inst_item_at}
-use Rattle.meta_file_reader.specs.Reading.{bool_item_at, num_item_at, enum_item_at, preset_item_at, wanted_item, item_behind, item_at}
+use Rattle.meta_file_reader.specs.Reading.{bool_item_at, num_item_at, enum_item_at, preset_item_at, wanted_item, item_after, item_at}
 use Rattle.meta_file_reader.proofs.SetLaws.{span_takes, part_takes}
 use Rattle.meta_file_reader.proofs.KindLaws.{value_takes, slot_takes}
 use Rattle.meta_file_reader.proofs.InstLaws.{operand_takes, mark_takes}
 use Rattle.meta_file_reader.proofs.SettingLaws.{named_takes}
-use Rattle.meta_file_reader.proofs.Stuck.{Other, Local, LocalOn, local_bind, made_local, ok_local, wants_local, took, behind_local}
+use Rattle.meta_file_reader.proofs.Stuck.{Other, Local, LocalOn, local_bind, made_local, ok_local, wants_local, took, after_local}
 use Rattle.meta_file_reader.proofs.Stuck.{local_cases, name_local, word_local, text_local, chosen_local, sign_local, word_tells}
 use Rattle.meta_file_reader.proofs.Stuck.{sign_tells, digit_tells, either_local, comment_local, docs_local, separator_local}
 use Rattle.meta_file_reader.proofs.Stuck.{some_local, list_local, type_local}
@@ -46,7 +46,7 @@ high_local : Local high_at
 unfolding high_at
 high_local =
     either_local _ _ _ (sign_tells 46)
-    (behind_local (λ ts. sign_at 46 ts >>= λ after. part_number_at wanted.PartNumber after >>= λ n. Ok (Some n.0, n.1))
+    (after_local (λ ts. sign_at 46 ts >>= λ after. part_number_at wanted.PartNumber after >>= λ n. Ok (Some n.0, n.1))
     (sign_local (wanted.Sign 46) 46 _ (λ e. absurd cc) (made_local _ (λ n. Some n) (number_local wanted.PartNumber (λ e. absurd cc)))))
     (ok_local None)
 
@@ -75,7 +75,7 @@ set_local : Local set_at
 unfolding set_at
 set_local =
     either_local _ _ _ (word_tells (codes "like"))
-    (behind_local (λ ts. word_at wanted.Type ts >>= λ w. Ok (sets.Like w.0, w.1))
+    (after_local (λ ts. word_at wanted.Type ts >>= λ w. Ok (sets.Like w.0, w.1))
     (made_local _ (λ w. sets.Like w) (word_local wanted.Type (λ e. absurd cc))))
     (made_local _ (λ ps. sets.Parts ps)
     (some_local set_part (part_at wanted.Dimension) layouts.Commas (part_takes wanted.Dimension) (λ p. omega arith)
@@ -103,7 +103,7 @@ type_item_local : (ds : List (List ℕ)) → Local (type_item_at ds)
 unfolding type_item_at
 type_item_local ds =
     local_bind _ _ (word_local wanted.TypeWord (λ e. absurd cc))
-    (λ w. either_local _ _ _ (sign_tells 61) (behind_local (alias_at ds w) (alias_local ds w)) (variable_local ds w))
+    (λ w. either_local _ _ _ (sign_tells 61) (after_local (alias_at ds w) (alias_local ds w)) (variable_local ds w))
 
 -- ---- kinds
 
@@ -133,16 +133,16 @@ unfolding sort_at
 sort_local =
     either_local _ _ _ (word_tells (codes "entity")) (took sorts.Entity)
     (either_local _ _ _ (word_tells (codes "imm")) (took sorts.Imm)
-    (either_local _ _ _ (word_tells (codes "imm_enum")) (behind_local imm_enum_at imm_enum_local)
+    (either_local _ _ _ (word_tells (codes "imm_enum")) (after_local imm_enum_at imm_enum_local)
     (either_local _ _ _ (word_tells (codes "varargs")) (took sorts.Varargs)
-    (either_local _ _ _ (word_tells (codes "value")) (behind_local value_of_at value_of_local)
+    (either_local _ _ _ (word_tells (codes "value")) (after_local value_of_at value_of_local)
     (wants_local wanted.Sort (λ e. absurd cc))))))
 
 field_local : Local field_at
 unfolding field_at
 field_local =
     either_local _ _ _ (word_tells (codes "field"))
-    (behind_local (λ ts. name_at wanted.FieldName ts >>= λ n. Ok (Some n.0, n.1))
+    (after_local (λ ts. name_at wanted.FieldName ts >>= λ n. Ok (Some n.0, n.1))
     (made_local _ (λ n. Some n) (name_local wanted.FieldName (λ e. absurd cc)))) (ok_local None)
 
 kind_local : (ds : List (List ℕ)) → Local (kind_item_at ds)
@@ -164,7 +164,7 @@ slot_local : (w : Wanted) → Other w → Local (slot_at w)
 unfolding slot_at
 slot_local w o =
     either_local _ _ _ (word_tells (codes "value")) (took slots.Value)
-    (either_local _ _ _ (word_tells (codes "designated")) (behind_local designated_at designated_local)
+    (either_local _ _ _ (word_tells (codes "designated")) (after_local designated_at designated_local)
     (made_local _ (λ v. slots.Kind v) (word_local w o)))
 
 slot_has : (s : Slot) → 0 < length (slot s)
@@ -201,7 +201,7 @@ outputs_local : Local outputs_at
 unfolding outputs_at
 outputs_local =
     either_local _ _ _ (sign_tells 45)
-    (behind_local (λ ts. sign_or_at wanted.Arrow 62 ts >>= λ after. some_at (operand_at wanted.OperandName) layouts.Commas after)
+    (after_local (λ ts. sign_or_at wanted.Arrow 62 ts >>= λ after. some_at (operand_at wanted.OperandName) layouts.Commas after)
     (sign_local wanted.Arrow 62 _ (λ e. absurd cc)
     (some_local operand (operand_at wanted.OperandName) layouts.Commas (operand_takes wanted.OperandName) (λ p. omega arith)
     (separator_local layouts.Commas (λ e. absurd cc)) (operand_local wanted.OperandName (λ e. absurd cc))))) (ok_local [])
@@ -210,7 +210,7 @@ mark_local : (w : Wanted) → Other w → Local (mark_at w)
 unfolding mark_at
 mark_local w o =
     either_local _ _ _ (word_tells (codes "second"))
-    (behind_local (λ ts. type_at ts >>= λ t. Ok (marks.Second t.0, t.1)) (made_local _ (λ t. marks.Second t) type_local))
+    (after_local (λ ts. type_at ts >>= λ t. Ok (marks.Second t.0, t.1)) (made_local _ (λ t. marks.Second t) type_local))
     (made_local _ (λ p. marks.Is p) (chosen_local w o property_of))
 
 mark_has : (m : Mark) → 0 < length (mark m)
@@ -221,7 +221,7 @@ marks_local : Local marks_at
 unfolding marks_at
 marks_local =
     either_local _ _ _ (sign_tells 91)
-    (behind_local (λ ts. list_at (mark_at wanted.Mark) layouts.Brackets ts >>= λ ms. Ok (Some ms.0, ms.1))
+    (after_local (λ ts. list_at (mark_at wanted.Mark) layouts.Brackets ts >>= λ ms. Ok (Some ms.0, ms.1))
     (made_local _ (λ ms. Some ms)
     (list_local mark (mark_at wanted.Mark) layouts.Brackets (mark_takes wanted.Mark) mark_has
     (separator_local layouts.Brackets (λ e. absurd cc))
@@ -290,33 +290,33 @@ preset_local ds =
 undocumented : (k : Keyword) (at : List Token → Result (Item × List Token) Fault) → Local at → (b : Bool)
     → (g : List Token → Result (Item × List Token) Fault) × Local g
     × ((ts : List Token) → cond b (at ts) (wants wanted.Documented (Key k ∷ ts)) ≡ g (Key k ∷ ts))
-undocumented k at one true = (λ us. at (drop 1 us), behind_local at one, λ ts. refl)
+undocumented k at one true = (λ us. at (drop 1 us), after_local at one, λ ts. refl)
 undocumented k at one false = (λ us. wants wanted.Documented us, wants_local wanted.Documented (λ e. absurd cc), λ ts. refl)
 
-behind_key : (k : Keyword) (at : List Token → Result (Item × List Token) Fault) → Local at
+after_key : (k : Keyword) (at : List Token → Result (Item × List Token) Fault) → Local at
     → (g : List Token → Result (Item × List Token) Fault) × Local g × ((ts : List Token) → at ts ≡ g (Key k ∷ ts))
-behind_key k at one = (λ us. at (drop 1 us), behind_local at one, λ ts. refl)
+after_key k at one = (λ us. at (drop 1 us), after_local at one, λ ts. refl)
 
-key_on : (ds : List (List ℕ)) (k : Keyword) → LocalOn (item_behind ds) (Key k)
-key_on ds key.Type = behind_key key.Type (type_item_at ds) (type_item_local ds)
+key_on : (ds : List (List ℕ)) (k : Keyword) → LocalOn (item_after ds) (Key k)
+key_on ds key.Type = after_key key.Type (type_item_at ds) (type_item_local ds)
 key_on ds key.Kind =
-    behind_key key.Kind (λ ts. kind_item_at ds ts >>= λ x. Ok (item.Kind x.0, x.1)) (made_local _ (λ i. item.Kind i) (kind_local ds))
+    after_key key.Kind (λ ts. kind_item_at ds ts >>= λ x. Ok (item.Kind x.0, x.1)) (made_local _ (λ i. item.Kind i) (kind_local ds))
 key_on ds key.Format =
     undocumented key.Format (λ ts. format_item_at ts >>= λ x. Ok (item.Format x.0, x.1)) (made_local _ (λ i. item.Format i) format_local)
     (length ds == 0)
 key_on ds key.Inst =
-    behind_key key.Inst (λ ts. inst_item_at ds ts >>= λ x. Ok (item.Inst x.0, x.1)) (made_local _ (λ i. item.Inst i) (inst_local ds))
+    after_key key.Inst (λ ts. inst_item_at ds ts >>= λ x. Ok (item.Inst x.0, x.1)) (made_local _ (λ i. item.Inst i) (inst_local ds))
 key_on ds key.Group =
     undocumented key.Group (λ ts. name_at wanted.GroupName ts >>= λ n. Ok (item.Group n.0, n.1))
     (made_local _ (λ n. item.Group n) (name_local wanted.GroupName (λ e. absurd cc))) (length ds == 0)
 key_on ds key.Bool =
-    behind_key key.Bool (λ ts. bool_item_at ds ts >>= λ x. Ok (item.Bool x.0, x.1)) (made_local _ (λ i. item.Bool i) (bool_local ds))
+    after_key key.Bool (λ ts. bool_item_at ds ts >>= λ x. Ok (item.Bool x.0, x.1)) (made_local _ (λ i. item.Bool i) (bool_local ds))
 key_on ds key.Num =
-    behind_key key.Num (λ ts. num_item_at ds ts >>= λ x. Ok (item.Num x.0, x.1)) (made_local _ (λ i. item.Num i) (num_local ds))
+    after_key key.Num (λ ts. num_item_at ds ts >>= λ x. Ok (item.Num x.0, x.1)) (made_local _ (λ i. item.Num i) (num_local ds))
 key_on ds key.Enum =
-    behind_key key.Enum (λ ts. enum_item_at ds ts >>= λ x. Ok (item.Enum x.0, x.1)) (made_local _ (λ i. item.Enum i) (enum_local ds))
+    after_key key.Enum (λ ts. enum_item_at ds ts >>= λ x. Ok (item.Enum x.0, x.1)) (made_local _ (λ i. item.Enum i) (enum_local ds))
 key_on ds key.Preset =
-    behind_key key.Preset (λ ts. preset_item_at ds ts >>= λ x. Ok (item.Preset x.0, x.1))
+    after_key key.Preset (λ ts. preset_item_at ds ts >>= λ x. Ok (item.Preset x.0, x.1))
     (made_local _ (λ i. item.Preset i) (preset_local ds))
 
 either_other : (b : Bool) → Other (cond b wanted.Item wanted.Documented)
@@ -326,7 +326,7 @@ either_other false e = absurd cc
 item_other : (ds : List (List ℕ)) → Other (wanted_item ds)
 item_other ds = either_other (length ds == 0)
 
-item_on : (ds : List (List ℕ)) (t : Token) → LocalOn (item_behind ds) t
+item_on : (ds : List (List ℕ)) (t : Token) → LocalOn (item_after ds) t
 item_on ds (Key k) = key_on ds k
 item_on ds (Word v) = (λ ts. wants (wanted_item ds) ts, wants_local (wanted_item ds) (item_other ds), λ ts. refl)
 item_on ds (Quoted v) = (λ ts. wants (wanted_item ds) ts, wants_local (wanted_item ds) (item_other ds), λ ts. refl)
@@ -337,4 +337,4 @@ item_on ds (Stray f) = (λ ts. wants (wanted_item ds) ts, wants_local (wanted_it
 pub item_local : Local item_at
 unfolding item_at
 item_local =
-    docs_local item_behind (λ ds. local_cases (item_behind ds) (omega arith, λ e. absurd (item_other ds e)) (item_on ds))
+    docs_local item_after (λ ds. local_cases (item_after ds) (omega arith, λ e. absurd (item_other ds e)) (item_on ds))

@@ -7,7 +7,7 @@ use Rattle.meta_file_syntax.specs.declared.token.Token.TheVariants.{Word, Sign}
 use Rattle.meta_types.specs.declared.derived_func.DerivedFunc.{DerivedFunc}
 use Rattle.meta_types.specs.declared.derived_func.DerivedFunc.TheVariants as functions
 use Rattle.meta_file_syntax.specs.declared.types.TypeExpr.{TypeExpr}
-use Rattle.meta_file_syntax.specs.Spelling.{each_behind, called, closed, type_expr}
+use Rattle.meta_file_syntax.specs.Spelling.{each_after, called, closed, type_expr}
 use Rattle.meta_types.specs.declared.derived_func.TheConstants.{DERIVED_FUNCS}
 use Rattle.meta_file_syntax.specs.Words.{function_text, function_named}
 use Rattle.meta_file_reader.specs.declared.fault.Fault.{Fault}
@@ -83,12 +83,12 @@ every_function [] = tt
 every_function (f ∷ fs) = (tt, every_function fs)
 
 calls_by : (ts : List Token) (x : List DerivedFunc × List Token) (b : Bool)
-    → cond b (some_at (function_at wanted.Function) layouts.Calls ts) (Ok ([], ts)) ≡ Ok x → Taken (each_behind [] called) ts x
+    → cond b (some_at (function_at wanted.Function) layouts.Calls ts) (Ok ([], ts)) ≡ Ok x → Taken (each_after [] called) ts x
 calls_by ts x true e = some_rows called layouts.Calls ts x refl refl
     (some_takes called (function_at wanted.Function) layouts.Calls (function_takes wanted.Function) ts x e)
-calls_by ts x false e = subst (Taken (each_behind [] called) ts) (ok_is ([], ts) x e) refl
+calls_by ts x false e = subst (Taken (each_after [] called) ts) (ok_is ([], ts) x e) refl
 
-pub calls_takes : Takes (each_behind [] called) calls_at
+pub calls_takes : Takes (each_after [] called) calls_at
 unfolding calls_at
 calls_takes ts x e = calls_by ts x (call_first ts) e
 
@@ -102,12 +102,12 @@ unfolding calls_at
 calls_within ts = calls_within_by ts (call_first ts)
 
 calls_again : (fs : List DerivedFunc) (rest : List Token) → call_first rest ≡ false
-    → calls_at (each_behind [] called fs ++ rest) ≡ Ok (fs, rest)
+    → calls_at (each_after [] called fs ++ rest) ≡ Ok (fs, rest)
 unfolding calls_at
 calls_again [] rest h = rw h refl
 calls_again (f ∷ fs) rest h =
     let end : Ends layouts.Calls rest = rw h refl in
-    let same : each_behind [] called (f ∷ fs) ++ rest ≡ called f ++ (each_behind [] called fs ++ rest) = simp append_assoc in
+    let same : each_after [] called (f ∷ fs) ++ rest ≡ called f ++ (each_after [] called fs ++ rest) = simp append_assoc in
     some_again called (function_at wanted.Function) layouts.Calls AnyFunction Always functions_again f fs rest
     (every_function (f ∷ fs)) (of_last AnyFunction (λ g. tt) (f ∷ fs)) end
 
@@ -149,13 +149,13 @@ type_takes ts x e =
     let a = bind_ok (calls_at ts) _ x e in
     let b = bind_ok (word_at wanted.Type a.0.1) _ x a.2 in
     let c = bind_ok (closed_at (length a.0.0) b.0.1) _ x b.2 in
-    let t0 : ts ≡ each_behind [] called a.0.0 ++ a.0.1 = calls_takes ts a.0 a.1 in
+    let t0 : ts ≡ each_after [] called a.0.0 ++ a.0.1 = calls_takes ts a.0 a.1 in
     let t1 : a.0.1 ≡ Word b.0.0 ∷ b.0.1 = word_takes wanted.Type a.0.1 b.0 b.1 in
     let t2 : b.0.1 ≡ closed a.0.0 ++ c.0 = closed_takes a.0.0 b.0.1 c.0 c.1 in
     let made : TypeExpr × List Token = (record { functions = a.0.0; word = b.0.0 }, c.0) in
     let whole : ts ≡ type_expr made.0 ++ made.1 = t0
-    ∙ ap (λ (r : List Token). each_behind [] called a.0.0 ++ r) (t1 ∙ ap (λ (r : List Token). Word b.0.0 ∷ r) t2)
-    ∙ sym (append_assoc (each_behind [] called a.0.0) (Word b.0.0 ∷ closed a.0.0) c.0) in
+    ∙ ap (λ (r : List Token). each_after [] called a.0.0 ++ r) (t1 ∙ ap (λ (r : List Token). Word b.0.0 ∷ r) t2)
+    ∙ sym (append_assoc (each_after [] called a.0.0) (Word b.0.0 ∷ closed a.0.0) c.0) in
     subst (Taken type_expr ts) (ok_is made x c.2) whole
 
 pub type_within : Keeps type_at
@@ -178,7 +178,7 @@ pub type_again : (t : TypeExpr) (rest : List Token) → TypeApart t rest → typ
 unfolding type_at
 type_again t rest h =
     rw (
-      append_assoc (each_behind [] called t.functions) (Word t.word ∷ closed t.functions) rest,
+      append_assoc (each_after [] called t.functions) (Word t.word ∷ closed t.functions) rest,
       calls_again t.functions (Word t.word ∷ (closed t.functions ++ rest)) (no_call t.functions rest h),
       closed_again t.functions rest,
     ) refl

@@ -27,7 +27,7 @@ use Rattle.meta_file_syntax.specs.declared.insts.Mark.{Mark}
 use Rattle.meta_file_syntax.specs.declared.insts.Mark.TheVariants as marks
 use Rattle.meta_file_syntax.specs.declared.items.Item.{Item}
 use Rattle.meta_file_syntax.specs.declared.items.Item.TheVariants as item
-use Rattle.meta_file_syntax.specs.Spelling.{docs, name, comment, truth, number, each_behind, comma, listed, named, called, closed}
+use Rattle.meta_file_syntax.specs.Spelling.{docs, name, comment, truth, number, each_after, comma, listed, named, called, closed}
 use Rattle.meta_file_syntax.specs.Spelling.{type_expr}
 use Rattle.meta_file_syntax.specs.Spelling.{up_to}
 use Rattle.meta_file_syntax.specs.Spelling.{span, part_members, set_part, set_expr, enum_value, kind_sort, field_name, slot, format_slots}
@@ -58,8 +58,8 @@ sign : (c : ℕ) (ts : List Token) → (c == 44) ≡ false → Stay ts → Stay 
 sign c ts e h rest = rw e (ap (λ (r : List Token). Sign c ∷ r) (h rest))
 
 -- a comma stays if no closing sign comes after it
-behind_comma : (ts : List Token) → ((rest : List Token) → ends_first (ts ++ rest) ≡ false) → Stay ts → Stay (Sign 44 ∷ ts)
-behind_comma ts e h rest = rw (e rest) (ap (λ (r : List Token). Sign 44 ∷ r) (h rest))
+stays_after_comma : (ts : List Token) → ((rest : List Token) → ends_first (ts ++ rest) ≡ false) → Stay ts → Stay (Sign 44 ∷ ts)
+stays_after_comma ts e h rest = rw (e rest) (ap (λ (r : List Token). Sign 44 ∷ r) (h rest))
 
 a_name : (n : Name) (ts : List Token) → Stay ts → Stay (name n ∷ ts)
 a_name (names.Plain w) ts h = word w ts h
@@ -79,18 +79,18 @@ of_comment (Some t) = text t [] nothing
 abbrev Opens : {A : Type 0} → (A → List Token) → Type 0
 Opens {A} part = (x : A) (rest : List Token) → ends_first (part x ++ rest) ≡ false
 
-of_rows : {A : Type 0} (part : A → List Token) → ((x : A) → Stay (part x)) → (xs : List A) → Stay (each_behind [] part xs)
+of_rows : {A : Type 0} (part : A → List Token) → ((x : A) → Stay (part x)) → (xs : List A) → Stay (each_after [] part xs)
 of_rows part h [] = nothing
-of_rows part h (x ∷ xs) = join (part x) (each_behind [] part xs) (h x) (of_rows part h xs)
+of_rows part h (x ∷ xs) = join (part x) (each_after [] part xs) (h x) (of_rows part h xs)
 
-of_more : {A : Type 0} (part : A → List Token) → Opens part → ((x : A) → Stay (part x)) → (xs : List A) → Stay (each_behind comma part xs)
+of_more : {A : Type 0} (part : A → List Token) → Opens part → ((x : A) → Stay (part x)) → (xs : List A) → Stay (each_after comma part xs)
 of_more part e h [] = nothing
 of_more part e h (x ∷ xs) =
-    join (Sign 44 ∷ part x) (each_behind comma part xs) (behind_comma (part x) (e x) (h x)) (of_more part e h xs)
+    join (Sign 44 ∷ part x) (each_after comma part xs) (stays_after_comma (part x) (e x) (h x)) (of_more part e h xs)
 
 of_listed : {A : Type 0} (part : A → List Token) → Opens part → ((x : A) → Stay (part x)) → (xs : List A) → Stay (listed part xs)
 of_listed part e h [] = nothing
-of_listed part e h (x ∷ xs) = join (part x) (each_behind comma part xs) (h x) (of_more part e h xs)
+of_listed part e h (x ∷ xs) = join (part x) (each_after comma part xs) (h x) (of_more part e h xs)
 
 no_end : (n : Name) (rest : List Token) → ends_first (name n ∷ rest) ≡ false
 no_end (names.Plain w) rest = refl
@@ -109,7 +109,7 @@ of_closed [] = nothing
 of_closed (f ∷ fs) = sign 41 (closed fs) refl (of_closed fs)
 
 of_type : (t : TypeExpr) → Stay (type_expr t)
-of_type t = join (each_behind [] called t.functions) (Word t.word ∷ closed t.functions) (of_rows called of_called t.functions)
+of_type t = join (each_after [] called t.functions) (Word t.word ∷ closed t.functions) (of_rows called of_called t.functions)
     (word t.word (closed t.functions) (of_closed t.functions))
 
 of_up_to : (h : Option ℕ) → Stay (up_to h)

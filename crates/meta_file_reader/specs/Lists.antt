@@ -31,14 +31,14 @@ separator_at layouts.Numbers ts = Ok (digit_first ts, ts)
 separator_at layouts.Calls ts = Ok (call_first ts, ts)
 
 -- the part after a separator, if there is one
-abbrev pub part_behind : {A : Type 0} → (List Token → Result (A × List Token) Fault) → Bool → List Token
+abbrev pub part_after : {A : Type 0} → (List Token → Result (A × List Token) Fault) → Bool → List Token
     → Result (Option A × List Token) Fault
-part_behind part true ts = part ts >>= λ x. Ok (Some x.0, x.1)
-part_behind part false ts = Ok (None, ts)
+part_after part true ts = part ts >>= λ x. Ok (Some x.0, x.1)
+part_after part false ts = Ok (None, ts)
 
 abbrev pub step_at : {A : Type 0} → (List Token → Result (A × List Token) Fault) → Layout → List Token
     → Result (Option A × List Token) Fault
-step_at part layout ts = separator_at layout ts >>= λ s. part_behind part s.0 s.1
+step_at part layout ts = separator_at layout ts >>= λ s. part_after part s.0 s.1
 
 -- a list that ends here, or has a part more before those that are still read
 abbrev pub with_step : {A : Type 0} → Option A → List Token → Result (List A × List Token) Fault → Result (List A × List Token) Fault

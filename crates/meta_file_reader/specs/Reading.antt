@@ -77,17 +77,17 @@ item_by docs key.Enum ts = enum_item_at docs ts >>= λ x. Ok (item.Enum x.0, x.1
 item_by docs key.Preset ts = preset_item_at docs ts >>= λ x. Ok (item.Preset x.0, x.1)
 
 -- an item after its documentation
-abbrev pub item_behind : List (List ℕ) → List Token → Result (Item × List Token) Fault
-item_behind docs [] = wants (wanted_item docs) []
-item_behind docs (Key k ∷ ts) = item_by docs k ts
-item_behind docs (Word w ∷ ts) = wants (wanted_item docs) (Word w ∷ ts)
-item_behind docs (Quoted t ∷ ts) = wants (wanted_item docs) (Quoted t ∷ ts)
-item_behind docs (Sign c ∷ ts) = wants (wanted_item docs) (Sign c ∷ ts)
-item_behind docs (Doc d ∷ ts) = wants (wanted_item docs) (Doc d ∷ ts)
-item_behind docs (Stray f ∷ ts) = wants (wanted_item docs) (Stray f ∷ ts)
+abbrev pub item_after : List (List ℕ) → List Token → Result (Item × List Token) Fault
+item_after docs [] = wants (wanted_item docs) []
+item_after docs (Key k ∷ ts) = item_by docs k ts
+item_after docs (Word w ∷ ts) = wants (wanted_item docs) (Word w ∷ ts)
+item_after docs (Quoted t ∷ ts) = wants (wanted_item docs) (Quoted t ∷ ts)
+item_after docs (Sign c ∷ ts) = wants (wanted_item docs) (Sign c ∷ ts)
+item_after docs (Doc d ∷ ts) = wants (wanted_item docs) (Doc d ∷ ts)
+item_after docs (Stray f ∷ ts) = wants (wanted_item docs) (Stray f ∷ ts)
 
 unfoldable pub item_at : List Token → Result (Item × List Token) Fault
-item_at ts = item_behind (docs_at ts).0 (docs_at ts).1
+item_at ts = item_after (docs_at ts).0 (docs_at ts).1
 
 -- all items, if they are at most as many as this
 unfoldable pub items_at : ℕ → List Token → Result (List Item) Fault

@@ -16,7 +16,7 @@ back_quoted bytes = 96 ∷ (bytes ++ 96 ∷ [])
 -- what was wanted
 abbrev pub wanted_text : Wanted → List ℕ
 wanted_text wanted.Item = codes "type, kind, format, inst, group, bool, num, enum or preset"
-wanted_text wanted.Documented = codes "behind documentation type, kind, inst, bool, num, enum or preset"
+wanted_text wanted.Documented = codes "after documentation type, kind, inst, bool, num, enum or preset"
 wanted_text wanted.GroupName = codes "the name of the group"
 wanted_text wanted.SettingName = codes "the name of the setting"
 wanted_text wanted.PresetName = codes "the name of the preset"
@@ -57,7 +57,7 @@ hex_digit n = if nat_lt n 10 then 48 + n else 87 + n
 -- what is wrong with what is no token
 abbrev pub flaw_text : Flaw → List ℕ
 flaw_text NoClosingQuote = codes "a text without its closing quote"
-flaw_text BadEscape = codes "behind a backslash stands a quote, a backslash or n"
+flaw_text BadEscape = codes "after a backslash stands a quote, a backslash or n"
 flaw_text LoneSlash = codes "a comment begins with two slashes"
 flaw_text NotUtf8 = codes "the line is not UTF-8"
 flaw_text (StrayByte c) =

@@ -30,10 +30,10 @@ pub record BeginItems (ts : List Token) : Type 0 where
 -- a word that isn't a function, and `(` after it
 pub record CallNone (ts : List Token) : Type 0 where
   pub word : List ℕ
-  pub behind : List Token
-  pub are : ts ≡ Word word ∷ behind
+  pub after : List Token
+  pub are : ts ≡ Word word ∷ after
   pub none : function_named word ≡ None
-  pub opens : sign_first 40 behind ≡ true
+  pub opens : sign_first 40 after ≡ true
 
 -- The place of the token that can't stand there. It is the place of the refusal, unless a function is wanted. Then the refusal names a word
 -- that isn't a function, and what can't stand there is the `(` after it, since the word alone may be a type.
@@ -54,7 +54,7 @@ pub record AreRefused (ts : List Token) (w : Wanted) (place : ℕ) : Type 0 wher
   pub longest : (is : List Item) (more : List Token) → AllFit is → LastApart is more → ts ≡ spelled_all is ++ more
       → length rest ≤ length more
   pub some : rest ≡ [] → ⊥
-  pub behind : length (spelled_all front) ≤ place
+  pub after : length (spelled_all front) ≤ place
   pub within : stuck_at w place ≤ length ts
   pub called : w ≡ wanted.Function → CallNone (drop place ts)
   pub begun : BeginItems (take (stuck_at w place) ts)

@@ -3,7 +3,7 @@ ghost use Rattle.meta_file_reader.specs.SetReading.{slots_at, format_item_at};
 
 use super::fault::{Fault, PartError, Wanted};
 use super::lists::{Element, Layout, some};
-use super::parts::{begins_with_word, behind_sign, comment, word_of};
+use super::parts::{after_sign, begins_with_word, comment, word_of};
 use meta_file_syntax::{FormatItem, Listed, Slot, Token};
 use std::alloc::Global;
 
@@ -55,7 +55,7 @@ pub(crate) fn format_item(
 {
     let (word, rest) = word_of(alloc, tokens, Wanted::FormatWord)?;
     let (shown, rest) = comment(alloc, rest)?;
-    let rest = behind_sign(rest, b':')?;
+    let rest = after_sign(rest, b':')?;
     let (slots, rest) = slots(alloc, rest)?;
     Ok((FormatItem { word, shown, slots }, rest))
 }

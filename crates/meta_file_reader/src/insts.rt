@@ -5,7 +5,7 @@ ghost use Rattle.meta_file_reader.specs.SetReading.{outputs_at, marks_at, inputs
 use super::fault::{Fault, PartError, Wanted};
 use super::lists::{Element, Layout, list, some};
 use super::parts::{
-    begins_with_sign, begins_with_word, behind_sign, behind_sign_or, comment, name_of, word_of,
+    after_sign, after_sign_or, begins_with_sign, begins_with_word, comment, name_of, word_of,
 };
 use super::types::type_expr;
 use meta_file_syntax::{Bytes, Docs, InstItem, Listed, Mark, Operand, Property, Token};
@@ -23,7 +23,7 @@ impl Element for Operand {
         wanted: Wanted,
     ) -> Result<(Operand, &[Token]), PartError> {
         let (name, rest) = name_of(alloc, tokens, wanted)?;
-        let rest = behind_sign(rest, b':')?;
+        let rest = after_sign(rest, b':')?;
         let (what, rest) = type_expr(alloc, rest)?;
         let (text, rest) = comment(alloc, rest)?;
         Ok((Operand { name, what, text }, rest))
@@ -38,7 +38,7 @@ fn outputs(alloc: Global, tokens: &[Token]) -> Result<(Listed<Operand>, &[Token]
     if !begins_with_sign(tokens, b'-') {
         return Ok((Listed::of(Vec::new(alloc)), tokens));
     }
-    let rest = behind_sign_or(&tokens[1..], b'>', Wanted::Arrow)?;
+    let rest = after_sign_or(&tokens[1..], b'>', Wanted::Arrow)?;
     some(alloc, rest, Layout::Commas, Wanted::OperandName)
 }
 
@@ -99,7 +99,7 @@ fn inputs(
     ensures { Gives (λ x. (x.0, x.1.now)) result (inputs_at tokens.now) }
 {
     let (format, rest) = word_of(alloc, tokens, Wanted::FormatName)?;
-    let rest = behind_sign(rest, b'(')?;
+    let rest = after_sign(rest, b'(')?;
     let (inputs, rest) = list(alloc, rest, Layout::Parentheses, Wanted::OperandName)?;
     Ok(((format, inputs), rest))
 }
@@ -113,7 +113,7 @@ pub(crate) fn inst_item(
     ensures { Gives (λ x. (x.0, x.1.now)) result (inst_item_at docs tokens.now) }
 {
     let (name, rest) = name_of(alloc, tokens, Wanted::InstName)?;
-    let rest = behind_sign(rest, b':')?;
+    let rest = after_sign(rest, b':')?;
     let ((format, inputs), rest) = inputs(alloc, rest)?;
     let (outputs, rest) = outputs(alloc, rest)?;
     let (marks, rest) = marks(alloc, rest)?;

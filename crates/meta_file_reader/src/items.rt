@@ -1,6 +1,6 @@
 ghost use Rattle.std.specs.Prelude.{◌≡◌, List, length, IfOk};
 ghost use Rattle.meta_file_reader.specs.Parts.{Gives};
-ghost use Rattle.meta_file_reader.specs.Reading.{format_at, group_at, item_by, item_behind, item_at, items_at};
+ghost use Rattle.meta_file_reader.specs.Reading.{format_at, group_at, item_by, item_after, item_at, items_at};
 
 use super::fault::{Fault, PartError, Wanted};
 use super::formats::format_item;
@@ -13,7 +13,7 @@ use meta_file_syntax::{Docs, Item, Keyword, Token};
 use std::alloc::Global;
 
 /// Reads a format, after its keyword. It must have no documentation.
-fn format_behind<'t>(
+fn format_after<'t>(
     alloc: Global,
     docs: &Docs,
     tokens: &'t [Token],
@@ -31,7 +31,7 @@ fn format_behind<'t>(
 }
 
 /// Reads a group, after its keyword. It must have no documentation.
-fn group_behind<'t>(
+fn group_after<'t>(
     alloc: Global,
     docs: &Docs,
     tokens: &'t [Token],
@@ -62,12 +62,12 @@ fn item_by(
             let (item, rest) = kind_item(alloc, docs, tokens)?;
             Ok((Item::Kind(item), rest))
         }
-        Keyword::Format => format_behind(alloc, &docs, tokens),
+        Keyword::Format => format_after(alloc, &docs, tokens),
         Keyword::Inst => {
             let (item, rest) = inst_item(alloc, docs, tokens)?;
             Ok((Item::Inst(item), rest))
         }
-        Keyword::Group => group_behind(alloc, &docs, tokens),
+        Keyword::Group => group_after(alloc, &docs, tokens),
         Keyword::Bool => {
             let (item, rest) = bool_item(alloc, docs, tokens)?;
             Ok((Item::Bool(item), rest))
@@ -87,8 +87,8 @@ fn item_by(
     }
 }
 
-fn item_behind(alloc: Global, docs: Docs, tokens: &[Token]) -> Result<(Item, &[Token]), PartError>
-    ensures { Gives (λ x. (x.0, x.1.now)) result (item_behind docs tokens.now) }
+fn item_after(alloc: Global, docs: Docs, tokens: &[Token]) -> Result<(Item, &[Token]), PartError>
+    ensures { Gives (λ x. (x.0, x.1.now)) result (item_after docs tokens.now) }
 {
     match tokens {
         [Token::Key(keyword), rest @ ..] => item_by(alloc, docs, *keyword, rest),
@@ -108,7 +108,7 @@ fn item_of(alloc: Global, tokens: &[Token]) -> Result<(Item, &[Token]), PartErro
     ensures { Gives (λ x. (x.0, x.1.now)) result (item_at tokens.now) }
 {
     let (docs, rest) = docs_of(alloc, tokens)?;
-    item_behind(alloc, docs, rest)
+    item_after(alloc, docs, rest)
 }
 
 /// Reads items up to the end.
@@ -121,9 +121,9 @@ pub(crate) fn items(alloc: Global, tokens: &[Token]) -> Result<Vec<Item>, PartEr
         if rest.is_empty() {
             return Ok(items);
         }
-        let (next, behind) = item_of(alloc, rest)?;
+        let (next, after) = item_of(alloc, rest)?;
         items.push(next)?;
-        rest = behind;
+        rest = after;
     }
     if rest.is_empty() {
         return Ok(items);

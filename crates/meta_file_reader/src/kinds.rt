@@ -3,7 +3,7 @@ ghost use Rattle.meta_file_reader.specs.SetReading.{imm_enum_at, value_of_at, so
 
 use super::fault::{Fault, PartError, Wanted};
 use super::lists::{Element, Layout, list};
-use super::parts::{begins_with_word, behind_sign, name_of, text_of, word_of};
+use super::parts::{after_sign, begins_with_word, name_of, text_of, word_of};
 use super::types::type_expr;
 use meta_file_syntax::{Docs, EnumValue, KindItem, Name, Sort, Token};
 use std::alloc::Global;
@@ -20,7 +20,7 @@ impl Element for EnumValue {
         wanted: Wanted,
     ) -> Result<(EnumValue, &[Token]), PartError> {
         let (name, rest) = name_of(alloc, tokens, wanted)?;
-        let rest = behind_sign(rest, b'=')?;
+        let rest = after_sign(rest, b'=')?;
         let (rust, rest) = name_of(alloc, rest, Wanted::RustValue)?;
         Ok((EnumValue { name, rust }, rest))
     }
@@ -31,7 +31,7 @@ impl Element for EnumValue {
 fn imm_enum(alloc: Global, tokens: &[Token]) -> Result<(Sort, &[Token]), PartError>
     ensures { Gives (λ x. (x.0, x.1.now)) result (imm_enum_at tokens.now) }
 {
-    let rest = behind_sign(tokens, b'(')?;
+    let rest = after_sign(tokens, b'(')?;
     let (values, rest) = list(alloc, rest, Layout::Parentheses, Wanted::Value)?;
     Ok((Sort::ImmEnum(values), rest))
 }
@@ -41,9 +41,9 @@ fn imm_enum(alloc: Global, tokens: &[Token]) -> Result<(Sort, &[Token]), PartErr
 fn value_of(alloc: Global, tokens: &[Token]) -> Result<(Sort, &[Token]), PartError>
     ensures { Gives (λ x. (x.0, x.1.now)) result (value_of_at tokens.now) }
 {
-    let rest = behind_sign(tokens, b'(')?;
+    let rest = after_sign(tokens, b'(')?;
     let (what, rest) = type_expr(alloc, rest)?;
-    let rest = behind_sign(rest, b')')?;
+    let rest = after_sign(rest, b')')?;
     Ok((Sort::Value(what), rest))
 }
 
@@ -92,7 +92,7 @@ pub(crate) fn kind_item(
     ensures { Gives (λ x. (x.0, x.1.now)) result (kind_item_at docs tokens.now) }
 {
     let (word, rest) = word_of(alloc, tokens, Wanted::KindWord)?;
-    let rest = behind_sign(rest, b':')?;
+    let rest = after_sign(rest, b':')?;
     let (sort, rest) = sort(alloc, rest)?;
     let (rust, rest) = text_of(alloc, rest)?;
     let (field, rest) = field(alloc, rest)?;

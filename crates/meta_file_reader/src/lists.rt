@@ -111,8 +111,8 @@ fn more<'t, T: Element>(
 {
     let mut rest = tokens;
     for _ in 0..count {
-        let (next, behind) = next_part(alloc, rest, layout, wanted)?;
-        rest = behind;
+        let (next, after) = next_part(alloc, rest, layout, wanted)?;
+        rest = after;
         match next {
             None => return Ok(rest),
             Some(part) => parts.push(part)?,

@@ -56,7 +56,7 @@ pub(crate) fn text_of(alloc: Global, tokens: &[Token]) -> Result<(Bytes, &[Token
 }
 
 /// Reads a sign. `wanted` is what the error names.
-pub(crate) fn behind_sign_or(
+pub(crate) fn after_sign_or(
     tokens: &[Token],
     sign: u8,
     wanted: Wanted,
@@ -72,10 +72,10 @@ pub(crate) fn behind_sign_or(
     }
 }
 
-pub(crate) fn behind_sign(tokens: &[Token], sign: u8) -> Result<&[Token], PartError>
+pub(crate) fn after_sign(tokens: &[Token], sign: u8) -> Result<&[Token], PartError>
     ensures { Gives (λ x. x.now) result (sign_at sign tokens.now) }
 {
-    behind_sign_or(tokens, sign, Wanted::Sign(sign))
+    after_sign_or(tokens, sign, Wanted::Sign(sign))
 }
 
 fn truth_of(word: &[u8]) -> Option<bool>
@@ -246,9 +246,9 @@ pub(crate) fn docs_of(alloc: Global, tokens: &[Token]) -> Result<(Docs, &[Token]
 {
     let mut lines = Vec::new(alloc);
     let mut rest = tokens;
-    while let Some((line, behind)) = first_doc(rest) {
+    while let Some((line, after)) = first_doc(rest) {
         lines.push(line.copy(alloc)?)?;
-        rest = behind;
+        rest = after;
     }
     Ok((Docs::of(lines), rest))
 }

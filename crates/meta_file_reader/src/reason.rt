@@ -21,7 +21,7 @@ fn wanted_words(wanted: Wanted) -> &'static [u8]
 {
     match wanted {
         Wanted::Item => b"type, kind, format, inst, group, bool, num, enum or preset",
-        Wanted::Documented => b"behind documentation type, kind, inst, bool, num, enum or preset",
+        Wanted::Documented => b"after documentation type, kind, inst, bool, num, enum or preset",
         Wanted::GroupName => b"the name of the group",
         Wanted::SettingName => b"the name of the setting",
         Wanted::PresetName => b"the name of the preset",
@@ -80,7 +80,7 @@ fn write_flaw(text: &mut Vec<u8>, flaw: Flaw) -> Result<(), AllocError>
     match flaw {
         Flaw::NoClosingQuote => text.extend_from_slice(b"a text without its closing quote"),
         Flaw::BadEscape => {
-            text.extend_from_slice(b"behind a backslash stands a quote, a backslash or n")
+            text.extend_from_slice(b"after a backslash stands a quote, a backslash or n")
         }
         Flaw::LoneSlash => text.extend_from_slice(b"a comment begins with two slashes"),
         Flaw::NotUtf8 => text.extend_from_slice(b"the line is not UTF-8"),

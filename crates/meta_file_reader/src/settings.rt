@@ -3,7 +3,7 @@ ghost use Rattle.meta_file_reader.specs.Reading.{bool_item_at, num_item_at, enum
 
 use super::fault::{PartError, Wanted};
 use super::lists::{Layout, list};
-use super::parts::{behind_sign, byte, comment, name_of, truth};
+use super::parts::{after_sign, byte, comment, name_of, truth};
 use meta_file_syntax::{BoolItem, Docs, EnumItem, NumItem, PresetItem, Token};
 use std::alloc::Global;
 
@@ -16,7 +16,7 @@ pub(crate) fn bool_item(
     ensures { Gives (λ x. (x.0, x.1.now)) result (bool_item_at docs tokens.now) }
 {
     let (name, rest) = name_of(alloc, tokens, Wanted::SettingName)?;
-    let rest = behind_sign(rest, b'=')?;
+    let rest = after_sign(rest, b'=')?;
     let (default, rest) = truth(rest)?;
     let (comment, rest) = comment(alloc, rest)?;
     let item = BoolItem {
@@ -37,7 +37,7 @@ pub(crate) fn num_item(
     ensures { Gives (λ x. (x.0, x.1.now)) result (num_item_at docs tokens.now) }
 {
     let (name, rest) = name_of(alloc, tokens, Wanted::SettingName)?;
-    let rest = behind_sign(rest, b'=')?;
+    let rest = after_sign(rest, b'=')?;
     let (default, rest) = byte(rest)?;
     let (comment, rest) = comment(alloc, rest)?;
     let item = NumItem {
@@ -58,7 +58,7 @@ pub(crate) fn enum_item(
     ensures { Gives (λ x. (x.0, x.1.now)) result (enum_item_at docs tokens.now) }
 {
     let (name, rest) = name_of(alloc, tokens, Wanted::SettingName)?;
-    let rest = behind_sign(rest, b'(')?;
+    let rest = after_sign(rest, b'(')?;
     let (values, rest) = list(alloc, rest, Layout::Parentheses, Wanted::Value)?;
     let (comment, rest) = comment(alloc, rest)?;
     let item = EnumItem {
@@ -79,7 +79,7 @@ pub(crate) fn preset_item(
     ensures { Gives (λ x. (x.0, x.1.now)) result (preset_item_at docs tokens.now) }
 {
     let (name, rest) = name_of(alloc, tokens, Wanted::PresetName)?;
-    let rest = behind_sign(rest, b'(')?;
+    let rest = after_sign(rest, b'(')?;
     let (args, rest) = list(alloc, rest, Layout::Parentheses, Wanted::Argument)?;
     let item = PresetItem { docs, name, args };
     Ok((item, rest))

@@ -7,8 +7,8 @@ ghost use Rattle.meta_file_reader.specs.SetReading.{variable_at, type_item_at};
 use super::fault::{Fault, PartError, Wanted};
 use super::lists::{Element, Layout, some};
 use super::parts::{
-    begins_with_call, begins_with_digit, begins_with_sign, begins_with_word, behind_sign,
-    behind_sign_or, comment, part_number, word_of,
+    after_sign, after_sign_or, begins_with_call, begins_with_digit, begins_with_sign,
+    begins_with_word, comment, part_number, word_of,
 };
 use meta_file_syntax::{
     AliasItem, Bytes, Dimension, Docs, Item, Listed, Members, Part, SetExpr, Span, Token, TypeExpr,
@@ -45,7 +45,7 @@ impl Element for DerivedFunc {
         wanted: Wanted,
     ) -> Result<(DerivedFunc, &[Token]), PartError> {
         let (function, rest) = function_word(tokens, wanted)?;
-        let rest = behind_sign(rest, b'(')?;
+        let rest = after_sign(rest, b'(')?;
         Ok((function, rest))
     }
 }
@@ -62,12 +62,12 @@ fn calls(alloc: Global, tokens: &[Token]) -> Result<(Listed<DerivedFunc>, &[Toke
 }
 
 /// Reads `count` times a `)`.
-fn behind_closed(tokens: &[Token], count: usize) -> Result<&[Token], PartError>
+fn after_closed(tokens: &[Token], count: usize) -> Result<&[Token], PartError>
     ensures { Gives (λ x. x.now) result (closed_at count tokens.now) }
 {
     let mut rest = tokens;
     for _ in 0..count {
-        rest = behind_sign(rest, b')')?;
+        rest = after_sign(rest, b')')?;
     }
     Ok(rest)
 }
@@ -78,7 +78,7 @@ pub(crate) fn type_expr(alloc: Global, tokens: &[Token]) -> Result<(TypeExpr, &[
 {
     let (functions, rest) = calls(alloc, tokens)?;
     let (word, rest) = word_of(alloc, rest, Wanted::Type)?;
-    let rest = behind_closed(rest, functions.as_slice().len())?;
+    let rest = after_closed(rest, functions.as_slice().len())?;
     Ok((TypeExpr { functions, word }, rest))
 }
 
@@ -97,7 +97,7 @@ impl Element for Span {
         if !begins_with_sign(rest, b'.') {
             return Ok((Span { low, high: None }, rest));
         }
-        let rest = behind_sign(&rest[1..], b'.')?;
+        let rest = after_sign(&rest[1..], b'.')?;
         let (number, rest) = part_number(rest, Wanted::PartNumber)?;
         let high = Some(number);
         Ok((Span { low, high }, rest))
@@ -190,7 +190,7 @@ fn variable(
     ensures { Gives (λ x. (x.0, x.1.now)) result (variable_at docs word tokens.now) }
 {
     let (shown, rest) = comment(alloc, tokens)?;
-    let rest = behind_sign_or(rest, b':', wanted_colon(&shown))?;
+    let rest = after_sign_or(rest, b':', wanted_colon(&shown))?;
     let (set, rest) = set(alloc, rest)?;
     let item = TypeItem {
         docs,

@@ -8,7 +8,7 @@ use Rattle.std.proofs.Math.Seq.{take-append_seam}
 use Rattle.meta_file_syntax.specs.Scan.{is_word_byte, scanned, tokens_in, next, ended_by, ended, class_of, word_token}
 use Rattle.std.specs.Str.Lines.{strip_carriage_return}
 use Rattle.meta_file_syntax.specs.Laid.{escaped, escaped_byte, cr_more, AreWordBytes, AreLineBytes, CanWrite, CanWriteAll, written}
-use Rattle.meta_file_syntax.specs.Laid.{behind, laid, starts, is_doc, closes, opens, IsWord, IsSignByte}
+use Rattle.meta_file_syntax.specs.Laid.{then_text, laid, starts, is_doc, closes, opens, IsWord, IsSignByte}
 use Rattle.meta_file_syntax.specs.Keywords.{keyword_of, keyword_text}
 use Rattle.meta_file_syntax.specs.declared.keyword.Keyword.{Keyword}
 use Rattle.meta_file_syntax.specs.declared.keyword.Keyword.TheVariants as key
@@ -325,17 +325,17 @@ separated u t rest false false h g l e =
     let n = neither (is_doc u) (starts t) l in
     blank_stands u (written t ++ rest) h n.0 ∙ ap (λ (x : List Token). pending u ++ x) (opened false t rest g (no_doc t n.1))
 
-laid_behind : (u : Token) (ts : List Token) → CanWrite u → CanWriteAll ts
-    → scanned (mode_after u) (bytes_after u) (behind u ts) ≡ pending u ++ ts
-unfolding behind ended
-laid_behind u [] h all = line_ends u [] h
-laid_behind u (t ∷ ts) h all =
-    separated u t (behind t ts) _ _ h all.0 refl refl
-    ∙ ap (λ (x : List Token). pending u ++ (emitted t ++ x)) (laid_behind t ts all.0 all.1)
+laid_after : (u : Token) (ts : List Token) → CanWrite u → CanWriteAll ts
+    → scanned (mode_after u) (bytes_after u) (then_text u ts) ≡ pending u ++ ts
+unfolding then_text ended
+laid_after u [] h all = line_ends u [] h
+laid_after u (t ∷ ts) h all =
+    separated u t (then_text t ts) _ _ h all.0 refl refl
+    ∙ ap (λ (x : List Token). pending u ++ (emitted t ++ x)) (laid_after t ts all.0 all.1)
     ∙ ap (λ (x : List Token). pending u ++ x) (emitted-pending t ts all.0)
 
 pub laid_reads : (ts : List Token) → CanWriteAll ts → tokens_in (laid ts) ≡ ts
 unfolding laid ended
 laid_reads [] all = refl
-laid_reads (t ∷ ts) all = opened true t (behind t ts) all.0 (λ d. refl)
-    ∙ ap (λ (x : List Token). emitted t ++ x) (laid_behind t ts all.0 all.1) ∙ emitted-pending t ts all.0
+laid_reads (t ∷ ts) all = opened true t (then_text t ts) all.0 (λ d. refl)
+    ∙ ap (λ (x : List Token). emitted t ++ x) (laid_after t ts all.0 all.1) ∙ emitted-pending t ts all.0

@@ -9,7 +9,7 @@ use Rattle.std.proofs.lemmas.Str.{inside_one}
 use lib.Utf8.{scalar, scalars, encode, encodes, low_scalar}
 use Rattle.meta_file_syntax.specs.Scan.{is_word_byte}
 use Rattle.meta_file_syntax.specs.Encoding.{text_tokens}
-use Rattle.meta_file_syntax.specs.Laid.{escaped, escaped_byte, cr_more, doc_line, AreWordBytes, CanWrite, CanWriteAll, written, behind}
+use Rattle.meta_file_syntax.specs.Laid.{escaped, escaped_byte, cr_more, doc_line, AreWordBytes, CanWrite, CanWriteAll, written, then_text}
 use Rattle.meta_file_syntax.specs.Laid.{laid}
 use Rattle.meta_file_syntax.specs.Laid.{separator, starts, is_doc, closes, opens}
 use Rattle.meta_file_syntax.specs.Keywords.{keyword_text}
@@ -144,16 +144,16 @@ gap_by false false = alone 32 (omega arith)
 separator_is_utf8 : (u t : Token) → IsUtf8 (separator u t)
 separator_is_utf8 u t = gap_by (is_doc u || starts t) (closes t || opens u)
 
-behind_is_utf8 : (u : Token) (ts : List Token) → CanWriteAll ts → IsUtf8 (behind u ts)
-unfolding behind
-behind_is_utf8 u [] all = alone 10 (omega arith)
-behind_is_utf8 u (t ∷ ts) all = IsUtf8-append (separator u t) (written t ++ behind t ts) (separator_is_utf8 u t)
-    (IsUtf8-append (written t) (behind t ts) (written_is_utf8 t all.0) (behind_is_utf8 t ts all.1))
+after_is_utf8 : (u : Token) (ts : List Token) → CanWriteAll ts → IsUtf8 (then_text u ts)
+unfolding then_text
+after_is_utf8 u [] all = alone 10 (omega arith)
+after_is_utf8 u (t ∷ ts) all = IsUtf8-append (separator u t) (written t ++ then_text t ts) (separator_is_utf8 u t)
+    (IsUtf8-append (written t) (then_text t ts) (written_is_utf8 t all.0) (after_is_utf8 t ts all.1))
 
 laid_is_utf8 : (ts : List Token) → CanWriteAll ts → IsUtf8 (laid ts)
 unfolding laid
 laid_is_utf8 [] all = IsUtf8-nil
-laid_is_utf8 (t ∷ ts) all = IsUtf8-append (written t) (behind t ts) (written_is_utf8 t all.0) (behind_is_utf8 t ts all.1)
+laid_is_utf8 (t ∷ ts) all = IsUtf8-append (written t) (then_text t ts) (written_is_utf8 t all.0) (after_is_utf8 t ts all.1)
 
 pub laid_is_read : (ts : List Token) → CanWriteAll ts → text_tokens (laid ts) ≡ ts
 laid_is_read ts all = rw (is_utf8-from_IsUtf8 (laid ts) (laid_is_utf8 ts all)) (laid_reads ts all)

@@ -9,13 +9,13 @@ use Rattle.meta_file_syntax.specs.Scan.{tokens_in}
 use Rattle.meta_file_syntax.specs.TokenLines.{lines_in, line_after, last_line_in}
 
 -- where the line begins in which the byte after this one stands: after a line end, or where it began before
-abbrev pub start_behind : ℕ → ℕ → ℕ → ℕ
-start_behind start place c = if c == 10 then place + 1 else start
+abbrev pub start_after : ℕ → ℕ → ℕ → ℕ
+start_after start place c = if c == 10 then place + 1 else start
 
 -- where the last line of a text begins, if the given bytes follow `place` others
 abbrev pub last_start : ℕ → ℕ → List ℕ → ℕ
 last_start start place [] = start
-last_start start place (c ∷ cs) = last_start (start_behind start place c) (place + 1) cs
+last_start start place (c ∷ cs) = last_start (start_after start place c) (place + 1) cs
 
 -- the lines at the front of a text that have their line ends
 abbrev pub whole_lines : List ℕ → List ℕ

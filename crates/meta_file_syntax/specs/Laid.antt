@@ -72,13 +72,13 @@ abbrev pub separator : Token → Token → List ℕ
 separator u t = if is_doc u || starts t then 10 ∷ [] else (if closes t || opens u then [] else 32 ∷ [])
 
 -- what stands after a token
-unfoldable pub behind : Token → List Token → List ℕ
-behind u [] = 10 ∷ []
-behind u (t ∷ ts) = separator u t ++ (written t ++ behind t ts)
+unfoldable pub then_text : Token → List Token → List ℕ
+then_text u [] = 10 ∷ []
+then_text u (t ∷ ts) = separator u t ++ (written t ++ then_text t ts)
 
 unfoldable pub laid : List Token → List ℕ
 laid [] = []
-laid (t ∷ ts) = written t ++ behind t ts
+laid (t ∷ ts) = written t ++ then_text t ts
 
 abbrev pub AreWordBytes : List ℕ → Type 0
 AreWordBytes [] = Unit {0}

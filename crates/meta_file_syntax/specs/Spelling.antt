@@ -62,9 +62,9 @@ number n = Word (decimal n)
 -- ---- lists
 
 -- {SEPARATOR X}
-abbrev pub each_behind : {A : Type 0} → List Token → (A → List Token) → List A → List Token
-each_behind separator part [] = []
-each_behind separator part (x ∷ xs) = separator ++ (part x ++ each_behind separator part xs)
+abbrev pub each_after : {A : Type 0} → List Token → (A → List Token) → List A → List Token
+each_after separator part [] = []
+each_after separator part (x ∷ xs) = separator ++ (part x ++ each_after separator part xs)
 
 abbrev pub comma : List Token
 comma = Sign 44 ∷ []
@@ -72,7 +72,7 @@ comma = Sign 44 ∷ []
 -- [X {"," X}]
 abbrev pub listed : {A : Type 0} → (A → List Token) → List A → List Token
 listed part [] = []
-listed part (x ∷ xs) = part x ++ each_behind comma part xs
+listed part (x ∷ xs) = part x ++ each_after comma part xs
 
 -- NAME
 abbrev pub named : Name → List Token
@@ -91,7 +91,7 @@ closed (f ∷ fs) = Sign 41 ∷ closed fs
 
 -- WORD | FUNCTION "(" type ")"
 abbrev pub type_expr : TypeExpr → List Token
-type_expr t = each_behind [] called t.functions ++ Word t.word ∷ closed t.functions
+type_expr t = each_after [] called t.functions ++ Word t.word ∷ closed t.functions
 
 -- [".." NUMBER]
 abbrev pub up_to : Option ℕ → List Token
@@ -106,7 +106,7 @@ span s = number s.low ∷ up_to s.high
 abbrev pub part_members : Members → List Token
 part_members members.All = Word (codes "all") ∷ []
 part_members members.Nothing = Word (codes "none") ∷ []
-part_members (members.Spans ss) = each_behind [] span ss
+part_members (members.Spans ss) = each_after [] span ss
 
 -- ("lanes" | "dynamic" | "ints" | "floats") ("all" | "none" | span {span})
 abbrev pub set_part : Part → List Token

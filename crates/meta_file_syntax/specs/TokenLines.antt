@@ -6,8 +6,8 @@ use Rattle.meta_file_syntax.specs.declared.scanner.Mode.TheVariants.{Start}
 use Rattle.meta_file_syntax.specs.Scan.{ended, given, after}
 
 -- the line after a byte: a line end ends its own line
-abbrev pub line_behind : ℕ → ℕ → ℕ
-line_behind line c = if c == 10 then line + 1 else line
+abbrev pub line_past : ℕ → ℕ → ℕ
+line_past line c = if c == 10 then line + 1 else line
 
 -- this line for each of the tokens
 abbrev pub each : ℕ → List Token → List ℕ
@@ -17,7 +17,7 @@ each line ts = replicate (length ts) line
 abbrev pub token_lines : Mode → List ℕ → ℕ → List ℕ → List ℕ
 token_lines mode bytes line [] = each line (ended mode bytes)
 token_lines mode bytes line (c ∷ cs) =
-    each line (given mode bytes c) ++ token_lines (after mode bytes c).mode (after mode bytes c).bytes (line_behind line c) cs
+    each line (given mode bytes c) ++ token_lines (after mode bytes c).mode (after mode bytes c).bytes (line_past line c) cs
 
 -- the line of each token of a text, whose first line is 1
 abbrev pub lines_in : List ℕ → List ℕ
@@ -26,12 +26,12 @@ lines_in text = token_lines Start [] 1 text
 -- the line in which a text ends that begins in this line
 abbrev pub line_after : ℕ → List ℕ → ℕ
 line_after line [] = line
-line_after line (c ∷ cs) = line_after (line_behind line c) cs
+line_after line (c ∷ cs) = line_after (line_past line c) cs
 
 -- the line of the last byte of a text that begins in a line; last where it has no byte
 abbrev pub last_line_from : ℕ → ℕ → List ℕ → ℕ
 last_line_from last line [] = last
-last_line_from last line (c ∷ cs) = last_line_from line (line_behind line c) cs
+last_line_from last line (c ∷ cs) = last_line_from line (line_past line c) cs
 
 -- the line of the last byte, or 1
 abbrev pub last_line_in : List ℕ → ℕ

@@ -8,7 +8,7 @@ ghost use Rattle.meta_file_syntax.specs.TokenLines.{lines_in, line_after};
 ghost use Rattle.meta_file_syntax.specs.Encoding.{whole_lines, text_tokens, text_lines, text_last_line};
 
 use super::flaw::Flaw;
-use super::scanner::{line_behind, scan};
+use super::scanner::{line_past, scan};
 use super::token::Token;
 use super::tokens::Tokens;
 use std::alloc::{AllocError, Global};
@@ -47,7 +47,7 @@ fn line_after(text: &[u8]) -> usize
 {
     let mut line = 1;
     for byte in text {
-        line = line_behind(line, *byte);
+        line = line_past(line, *byte);
     }
     line
 }

@@ -4,7 +4,7 @@ ghost use Rattle.meta_file_syntax.specs.declared.token.Token.TheVariants.{Word, 
 ghost use Rattle.meta_file_syntax.specs.declared.scanner.Mode.{Mode};
 ghost use Rattle.meta_file_syntax.specs.Scan.{in_mode, word_token, is_word_byte, is_blank, is_sign, class_of, begun, told, next, ended_by};
 ghost use Rattle.meta_file_syntax.specs.Scan.{ended, after, given, tokens_in};
-ghost use Rattle.meta_file_syntax.specs.TokenLines.{line_behind, lines_in, last_line_in};
+ghost use Rattle.meta_file_syntax.specs.TokenLines.{line_past, lines_in, last_line_in};
 
 use super::bytes::Bytes;
 use super::flaw::Flaw;
@@ -186,7 +186,7 @@ impl Scanner {
     }
 
     #[tactic(auto, unfolding(crate::specs::Scan::next, crate::specs::Scan::ended_by))]
-    fn go_on_behind_three_slashes(&mut self, byte: u8) -> Result<(), AllocError>
+    fn go_on_after_three_slashes(&mut self, byte: u8) -> Result<(), AllocError>
         ensures state { OnOk result (in_mode self.new.mode self.new.bytes.items ≡ next Mode.ThreeSlashes self.old.bytes.items byte) }
         ensures tokens { OnOk result (self.new.tokens.items ≡ self.old.tokens.items
             ++ ended_by Mode.ThreeSlashes self.old.bytes.items byte) }
@@ -247,7 +247,7 @@ impl Scanner {
                 });
                 Ok(())
             }
-            Mode::ThreeSlashes => self.go_on_behind_three_slashes(byte),
+            Mode::ThreeSlashes => self.go_on_after_three_slashes(byte),
             Mode::InDoc => self.keep(Mode::InDoc, byte),
             Mode::Comment => {
                 self.enter(Mode::Comment);
@@ -296,9 +296,9 @@ fn class_of(byte: u8) -> Class
 }
 
 /// The number of the line in which the byte after this one stands.
-pub(crate) fn line_behind(line: usize, byte: u8) -> usize
+pub(crate) fn line_past(line: usize, byte: u8) -> usize
     requires { line + 1 < 2 ^ 64 }
-    ensures { result ≡ line_behind line byte }
+    ensures { result ≡ line_past line byte }
 {
     if byte == b'\n' { line + 1 } else { line }
 }
@@ -332,7 +332,7 @@ pub(crate) fn scan(alloc: Global, text: &[u8]) -> Result<Tokens, AllocError>
         scanner.take(*byte)?;
         number(&mut lines, &scanner.tokens, line)?;
         last_line = line;
-        line = line_behind(line, *byte);
+        line = line_past(line, *byte);
     }
     scanner.end_line()?;
     number(&mut lines, &scanner.tokens, line)?;

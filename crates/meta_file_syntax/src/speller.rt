@@ -1,7 +1,7 @@
 ghost use Rattle.std.specs.Prelude.{◌≡◌, ◌++◌, ◌∷◌, [], List, OnOk};
 ghost use Rattle.meta_file_syntax.specs.declared.token.Token.{Token};
 ghost use Rattle.meta_file_syntax.specs.declared.token.Token.TheVariants.{Key, Word, Quoted};
-ghost use Rattle.meta_file_syntax.specs.Spelling.{docs, comment, truth, number, each_behind, listed, named};
+ghost use Rattle.meta_file_syntax.specs.Spelling.{docs, comment, truth, number, each_after, listed, named};
 
 use super::bytes::Bytes;
 use super::keyword::Keyword;
@@ -84,7 +84,7 @@ impl Speller {
     }
 
     pub(crate) fn add_all<T: Spelled>(&mut self, parts: &[T]) -> Result<(), AllocError>
-        ensures { OnOk result (self.new.tokens.items ≡ self.old.tokens.items ++ each_behind [] T.tokens parts.now) }
+        ensures { OnOk result (self.new.tokens.items ≡ self.old.tokens.items ++ each_after [] T.tokens parts.now) }
     {
         for part in parts {
             part.add_to(self)?;

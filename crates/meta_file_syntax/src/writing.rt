@@ -90,7 +90,7 @@ fn write_separator(text: &mut Vec<u8>, last: &Token, token: &Token) -> Result<()
 /// The canonical text of the tokens. Documentation and keywords begin a line, and there is a blank between two other tokens, except beside
 /// some signs. If each token can be written, the text has these tokens (`what_is_laid_is_read`), and `tokens_of` reads them from it, except
 /// a comma directly before `)` or `]`.
-#[tactic(auto, unfolding(crate::specs::Laid::laid, crate::specs::Laid::behind))]
+#[tactic(auto, unfolding(crate::specs::Laid::laid, crate::specs::Laid::then_text))]
 pub fn write_tokens(alloc: Global, tokens: &[Token]) -> Result<Vec<u8>, AllocError>
     ensures { IfOk result (λ v. v.items ≡ laid tokens.now) }
 {

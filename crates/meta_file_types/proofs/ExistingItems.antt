@@ -35,10 +35,10 @@ use Rattle.meta_file_types.proofs.Existing.{mentions_type, grows_by, kind_there}
 
 -- ---- what holds where something is meant
 
-pub ok_behind : {A B R : Type 0} (a : Result A R) (f : A → Result B R) (P : A → Type 0) (Q : B → Type 0) → IfOk a P
+pub ok_after : {A B R : Type 0} (a : Result A R) (f : A → Result B R) (P : A → Type 0) (Q : B → Type 0) → IfOk a P
     → ((x : A) → P x → IfOk (f x) Q) → IfOk (a >>= f) Q
-ok_behind (Ok x) f P Q h g = g x h
-ok_behind (Err reason) f P Q h g = tt
+ok_after (Ok x) f P Q h g = g x h
+ok_after (Err reason) f P Q h g = tt
 
 pub ok_unless : {A R : Type 0} (o : Option R) (a : Result A R) (P : A → Type 0) → IfOk a P → IfOk (unless o a) P
 ok_unless None a P h = h
@@ -127,25 +127,25 @@ module _ (vars : List TypeVarContent) (s : Said) (h : Serves (record { vars = va
     abbrev type_grows : Grows now (with_meant s.symbols (type_of s.words t)) s.roots s.words
     type_grows = grows_by now s.roots s.words h (type_of s.words t) (mentions_type now s.roots s.words h t)
 
-    abbrev behind_type : Registered
-    behind_type = record { vars = type_grows.vars; symbols = with_meant s.symbols (type_of s.words t) }
+    abbrev with_type_in : Registered
+    with_type_in = record { vars = type_grows.vars; symbols = with_meant s.symbols (type_of s.words t) }
 
-    meant_there : IfOk (type_of s.words t) (λ m. IsThere behind_type (TypeSense m))
+    meant_there : IfOk (type_of s.words t) (λ m. IsThere with_type_in (TypeSense m))
     meant_there = type_there now s.roots s.words h (type_of s.words t) (mentions_type now s.roots s.words h t)
 
   alias_grows : (t : TypeExpr) (w : List ℕ) (place : ℕ) (a : Result MeantType Reason)
-      → IfOk a (λ m. IsThere (behind_type t) (TypeSense m)) → GrowsTo (with_alias (after_type s t) w place a)
+      → IfOk a (λ m. IsThere (with_type_in t) (TypeSense m)) → GrowsTo (with_alias (after_type s t) w place a)
   alias_grows t w place (Err reason) there = type_grows t
   alias_grows t w place (Ok m) there =
       word_more (with_meant s.symbols (type_of s.words t)) (type_grows t) (record { word = w; place = place; sense = TypeSense m }) there
 
-  alias_there : (i : AliasItem) → IfOk (alias_of s.words i) (λ m. IsThere (behind_type i.means) (TypeSense m))
+  alias_there : (i : AliasItem) → IfOk (alias_of s.words i) (λ m. IsThere (with_type_in i.means) (TypeSense m))
   unfolding alias_of
   alias_there i =
-      let P : MeantType → Type 0 = λ m. IsThere (behind_type i.means) (TypeSense m) in
+      let P : MeantType → Type 0 = λ m. IsThere (with_type_in i.means) (TypeSense m) in
       ok_unless (wrong_texts (alias_texts i)) _ P
       (ok_unless (wrong_docs i.word i.docs) _ P
-      (ok_behind (type_of s.words i.means) (λ m. unless (wrong_word s.words i.word) (Ok m)) P P (meant_there i.means)
+      (ok_after (type_of s.words i.means) (λ m. unless (wrong_word s.words i.word) (Ok m)) P P (meant_there i.means)
       (λ m there. ok_unless (wrong_word s.words i.word) (Ok m) P there)))
 
   -- a kind
@@ -156,11 +156,11 @@ module _ (vars : List TypeVarContent) (s : Said) (h : Serves (record { vars = va
   sort_grows sorts.Varargs = grows_not now s.roots s.words h
   sort_grows (sorts.Value t) = type_grows t
 
-  abbrev behind_sort : Sort → Registered
-  behind_sort sort = record { vars = (sort_grows sort).vars; symbols = with_sort s.words s.symbols sort }
+  abbrev with_sort_in : Sort → Registered
+  with_sort_in sort = record { vars = (sort_grows sort).vars; symbols = with_sort s.words s.symbols sort }
 
   abbrev AreThere : Sort → MeantSort → Type 0
-  AreThere sort m = (f : OperandKindFields) × AreFieldsIn (behind_sort sort) m f
+  AreThere sort m = (f : OperandKindFields) × AreFieldsIn (with_sort_in sort) m f
 
   sort_there : (sort : Sort) → IfOk (sort_of s.words sort) (AreThere sort)
   unfolding sort_of
@@ -173,25 +173,25 @@ module _ (vars : List TypeVarContent) (s : Said) (h : Serves (record { vars = va
       by (Err reason) = tt
   sort_there sorts.Varargs = (fields.VariableArgs, refl)
   sort_there (sorts.Value t) =
-      ok_behind (type_of s.words t) (λ m. Ok (Value m)) (λ m. IsThere (behind_type t) (TypeSense m)) (AreThere (sorts.Value t))
+      ok_after (type_of s.words t) (λ m. Ok (Value m)) (λ m. IsThere (with_type_in t) (TypeSense m)) (AreThere (sorts.Value t))
       (meant_there t)
       (λ m there. (fields.TypeVar there.0, record { number = there.0; is = refl; type_is = there.1 }))
 
   kind_grows : (sort : Sort) (w : List ℕ) (place : ℕ) (a : Result MeantKind Reason)
-      → IfOk a (λ k. IsThere (behind_sort sort) (KindSense k)) → GrowsTo (with_kind (after_sort s sort) w place a)
+      → IfOk a (λ k. IsThere (with_sort_in sort) (KindSense k)) → GrowsTo (with_kind (after_sort s sort) w place a)
   kind_grows sort w place (Err reason) there = sort_grows sort
   kind_grows sort w place (Ok k) there =
       word_more (with_sort s.words s.symbols sort) (sort_grows sort) (record { word = w; place = place; sense = KindSense k }) there
 
-  kind_meant_there : (i : KindItem) → IfOk (kind_of s.words i) (λ k. IsThere (behind_sort i.sort) (KindSense k))
+  kind_meant_there : (i : KindItem) → IfOk (kind_of s.words i) (λ k. IsThere (with_sort_in i.sort) (KindSense k))
   unfolding kind_of
   kind_meant_there i =
-      let P : MeantKind → Type 0 = λ k. IsThere (behind_sort i.sort) (KindSense k) in
+      let P : MeantKind → Type 0 = λ k. IsThere (with_sort_in i.sort) (KindSense k) in
       ok_unless (wrong_texts (kind_texts i)) _ P
-      (ok_behind (sort_of s.words i.sort) (λ sort. unless (wrong_word s.words i.word) (Ok (kind_with i sort))) (AreThere i.sort) P
+      (ok_after (sort_of s.words i.sort) (λ sort. unless (wrong_word s.words i.word) (Ok (kind_with i sort))) (AreThere i.sort) P
       (sort_there i.sort)
       (λ sort there. ok_unless (wrong_word s.words i.word) (Ok (kind_with i sort)) P
-      (kind_there (behind_sort i.sort) (kind_with i sort) there.0 there.1)))
+      (kind_there (with_sort_in i.sort) (kind_with i sort) there.0 there.1)))
 
   -- a registry has what any item declares of types and kinds
   pub item_grows : (place : ℕ) (i : Item) → GrowsTo (after s place i)

@@ -14,9 +14,9 @@ pub stands_at : (plain : List PlainRoot) (k : ℕ) (p : PlainRoot) (t : TypePart
     → type_parts_of p.value_type ≡ t → StandsFor plain t p.variable
 stands_at plain k p t l is same = record { entry = p; among = (k, l, sym is); type_is = same; number_is = refl }
 
-pub stands_behind : (plain : List PlainRoot) (k : ℕ) (p : PlainRoot) (t : TypeParts) (n : ℕ) → k < length plain → p ≡ get_or plain k p
+pub stands_after : (plain : List PlainRoot) (k : ℕ) (p : PlainRoot) (t : TypeParts) (n : ℕ) → k < length plain → p ≡ get_or plain k p
     → (type_parts_of p.value_type ≡ t → ⊥) → StandsFor (drop k plain) t n → StandsFor (drop (k + 1) plain) t n
-stands_behind plain k p t n l is other s =
+stands_after plain k p t n l is other s =
     let next : drop k plain ≡ p ∷ drop (k + 1) plain = drop_next plain k p (slice_get_read plain (length plain) k p refl l is) in
     let among : Contains (p ∷ drop (k + 1) plain) s.entry = subst (λ (ps : List PlainRoot). Contains ps s.entry) next s.among in
     ⊎_elim

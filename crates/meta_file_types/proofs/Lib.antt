@@ -1,4 +1,4 @@
-pub mod Behind
+pub mod After
 pub mod Checked
 pub mod Deriving
 pub mod Existing

@@ -5,7 +5,7 @@ use Rattle.std.specs.List.{find}
 use Rattle.std.specs.Option.{option_or}
 use Rattle.std.specs.Cmp.Lexicographic.{bytes_decides}
 use Rattle.std.proofs.lemmas.Bool.{false≢true}
-use Rattle.meta_lists.proofs.Contained.{contains_first, contains_behind, contains_cases, contains_none}
+use Rattle.meta_lists.proofs.Contained.{contains_first, contains_after, contains_cases, contains_none}
 use Rattle.meta_types.specs.AllTypes.{all_types}
 use Rattle.meta_types.specs.TypeParts.{TypeParts, IsType, name_of}
 use Rattle.meta_types.specs.ValueTypes.{type_parts_of}
@@ -27,7 +27,7 @@ find_one : {X : Type 0} (p : X → Bool) (xs : List X) (x : X) → Contains xs x
     → ((y : X) → Contains xs y → p y ≡ true → y ≡ x) → find p xs ≡ Some x
 find_one {X} p [] x c t one = absurd (contains_none x c)
 find_one {X} p (y ∷ ys) x c t one =
-    by (p y) refl (λ there. find_one p ys x there t (λ z there passes. one z (contains_behind y z ys there) passes))
+    by (p y) refl (λ there. find_one p ys x there t (λ z there passes. one z (contains_after y z ys there) passes))
   where
     by : (b : Bool) → p y ≡ b → (Contains ys x → find p ys ≡ Some x) → cond b (Some y) (find p ys) ≡ Some x
     by true e more = ap (λ (z : X). Some z) (one y (contains_first y ys) e)
@@ -36,7 +36,7 @@ find_one {X} p (y ∷ ys) x c t one =
 
 find_none : {X : Type 0} (p : X → Bool) (xs : List X) → ((y : X) → Contains xs y → p y ≡ true → ⊥) → find p xs ≡ None
 find_none {X} p [] none = refl
-find_none {X} p (y ∷ ys) none = by (p y) refl (find_none p ys (λ z there passes. none z (contains_behind y z ys there) passes))
+find_none {X} p (y ∷ ys) none = by (p y) refl (find_none p ys (λ z there passes. none z (contains_after y z ys there) passes))
   where
     by : (b : Bool) → p y ≡ b → find p ys ≡ None → cond b (Some y) (find p ys) ≡ None
     by true e more = absurd (none y (contains_first y ys) e)

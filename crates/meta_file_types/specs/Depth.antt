@@ -1,6 +1,6 @@
 -- How many functions lead from the root to a variable, and the name of that root.
 --     depth_at vars n           their count
---     IsBehind vars p n         the variable n has one function more than p
+--     IsAfter vars p n         the variable n has one function more than p
 --     root_name_at vars n       the name of the root
 use Rattle.std.specs.Prelude.{◌≡◌, ◌<◌, ◌+◌, ℕ, List, [], length, slice_get, Option, Some, None}
 use Rattle.meta_typevar.specs.Registry.{variable_at}
@@ -11,7 +11,7 @@ abbrev pub depth_at : List TypeVarContent → ℕ → ℕ
 depth_at vars n = length (variable_at vars n).chain
 
 -- the variable with the number n has one function more than that with the number p
-pub record IsBehind (vars : List TypeVarContent) (n p : ℕ) : Type 0 where
+pub record IsAfter (vars : List TypeVarContent) (n p : ℕ) : Type 0 where
   pub of : p < length vars
   pub depth : depth_at vars n ≡ depth_at vars p + 1
 

@@ -2,7 +2,7 @@ ghost use Rattle.std.specs.Prelude.{◌≡◌, ◌<◌, ◌≤◌, ◌^◌, ◌-
 ghost use Rattle.meta_types.specs.ValueTypes.{type_parts_of};
 ghost use Rattle.meta_file_types.specs.Meant.{MeantType, plain};
 ghost use Rattle.meta_file_types.specs.Plain.{plain_type, given_kind};
-ghost use Rattle.meta_file_types.specs.Depth.{depth_at, IsBehind, root_name_at};
+ghost use Rattle.meta_file_types.specs.Depth.{depth_at, IsAfter, root_name_at};
 ghost use Rattle.meta_file_types.specs.Words.{most_functions, longest_name, derive_at, derived_from, type_named, type_of};
 ghost use Rattle.meta_file_types.specs.Said.{Said, nothing_said, mentioning, after_type};
 ghost use Rattle.meta_file_types.specs.Telling.{Tells};
@@ -26,10 +26,10 @@ const MOST_FUNCTIONS: usize = 64;
 const LONGEST_NAME: usize = 4_096;
 
 /// The variable from which this one is derived, if it is derived. It must be of the registry.
-#[tactic(auto, using(crate::proofs::Behind::at_root))]
+#[tactic(auto, using(crate::proofs::After::at_root))]
 fn parent(vars: &TypeVars, variable: TypeVar) -> Option<TypeVar>
     requires { variable < length vars.now }
-    ensures some { IfSome result (IsBehind vars.now variable) }
+    ensures some { IfSome result (IsAfter vars.now variable) }
     ensures none { IfNone result (depth_at vars.now variable ≡ 0) }
 {
     match &vars.content(variable).base {
@@ -183,15 +183,15 @@ impl Types {
         alloc: Global,
         variable: TypeVar,
         function: DerivedFunc,
-        behind: &'i [DerivedFunc],
+        after: &'i [DerivedFunc],
         word: &'i [u8],
     ) -> Result<TypeVar, ItemError<'i>>
         requires { variable < length (vars_in self.old) }
         ensures means { (s : Said) (m : MeantType) → IsMentioned self.old s m variable
-            → Tells (IsMentioned self.new s) result (derive_at word.now behind.now function m) }
+            → Tells (IsMentioned self.new s) result (derive_at word.now after.now function m) }
         ensures extends { (s : Said) (m : MeantType) → IsMentioned self.old s m variable
             → OnOk result (Extends (registered self.old (mentioning s (Ok m))) (registered self.new (mentioning s
-            (derive_at word.now behind.now function m)))) }
+            (derive_at word.now after.now function m)))) }
         ensures of { IfOk result (λ v. v < length (vars_in self.new)) }
     {
         if !may_be_derived_from(&self.vars, variable) {
@@ -202,8 +202,8 @@ impl Types {
         }
         self.check_room()?;
         if !variable.can_derive(alloc, &self.vars, function)? {
-            let (behind, word) = (Spelled::of(behind), Spelled::of(word));
-            return Err(ItemError::Wrong(Reason::CannotDerive(function, behind, word)));
+            let (after, word) = (Spelled::of(after), Spelled::of(word));
+            return Err(ItemError::Wrong(Reason::CannotDerive(function, after, word)));
         }
         Ok(variable.derived(&mut self.vars, function)?)
     }
@@ -228,8 +228,8 @@ impl Types {
         let mut place = functions.len();
         while place > 0 {
             place -= 1;
-            let (_, behind) = functions.split_at(place + 1);
-            match self.derive(alloc, derived, functions[place], behind, word) {
+            let (_, after) = functions.split_at(place + 1);
+            match self.derive(alloc, derived, functions[place], after, word) {
                 Ok(next) => derived = next,
                 Err(error) => return Err(error),
             }

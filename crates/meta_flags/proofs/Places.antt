@@ -21,11 +21,11 @@ setting_count ds = own_byte_count ds + described_boolean_count ds
 placed_setting : (own booleans size e offset : ℕ) (detail : Detail) → IsPlaced own booleans size e offset detail
     → ((is_preset detail ≡ false) ↔ (e < own + booleans))
 placed_setting own booleans size e offset (BoolDetail bit) at =
-    ((λ x. let w = at.within in let b = at.behind in omega (arith, w, b)), (λ l. refl))
+    ((λ x. let w = at.within in let b = at.after in omega (arith, w, b)), (λ l. refl))
 placed_setting own booleans size e offset (EnumDetail last place) at = ((λ x. let f = at.first in omega (arith, f)), (λ l. refl))
 placed_setting own booleans size e offset NumDetail at = ((λ x. let f = at.first in omega (arith, f)), (λ l. refl))
 placed_setting own booleans size e offset PresetDetail at =
-    ((λ x. absurd (false≢true (sym x))), (λ l. let b = at.behind in absurd (omega (arith, l, b))))
+    ((λ x. absurd (false≢true (sym x))), (λ l. let b = at.after in absurd (omega (arith, l, b))))
 
 -- in well-formed tables the settings are the first entries
 pub settings_first : (t : GroupContents) → IsWellFormedGroup t → AreSettings t.descriptors (setting_count t.descriptors)
@@ -52,8 +52,8 @@ abbrev pub defaults : GroupContents → List Descriptor → State
 defaults t ds = flat_map (λ (e : ServedEntry). default_of e.kind) (map (served_entry t) ds)
 
 -- if none of the entries is a setting, neither are those after the first
-none_behind : (d : Descriptor) (ds : List Descriptor) → AreSettings (d ∷ ds) 0 → AreSettings ds 0
-none_behind d ds first e x at = ((λ is. let l = (first (suc e) x at).0 is in absurd (omega (arith, l))), (λ l. absurd (omega (arith, l))))
+none_after : (d : Descriptor) (ds : List Descriptor) → AreSettings (d ∷ ds) 0 → AreSettings ds 0
+none_after d ds first e x at = ((λ is. let l = (first (suc e) x at).0 is in absurd (omega (arith, l))), (λ l. absurd (omega (arith, l))))
 
 -- after the first setting there is one less
 pub one_less : (d : Descriptor) (ds : List Descriptor) (n : ℕ) → AreSettings (d ∷ ds) (suc n) → AreSettings ds n
@@ -68,7 +68,7 @@ pub counted : (t : GroupContents) (ds : List Descriptor) (n : ℕ) → n ≤ len
 counted t [] n few first = omega arith
 counted t (d ∷ ds) zero few first =
     let none = no_default t d.offset d.detail (no_first d ds first) in
-    ap (λ (vs : State). length (vs ++ defaults t ds)) none ∙ counted t ds 0 (omega arith) (none_behind d ds first)
+    ap (λ (vs : State). length (vs ++ defaults t ds)) none ∙ counted t ds 0 (omega arith) (none_after d ds first)
 counted t (d ∷ ds) (suc n) few first =
     let one = one_default t d.offset d.detail ((first 0 d refl).1 (omega arith)) in
     let rest = counted t ds n (omega (arith, few)) (one_less d ds n first) in
@@ -85,7 +85,7 @@ settings_taken [] zero first = refl
 settings_taken [] (suc n) first = refl
 settings_taken (d ∷ ds) zero first =
     let preset = is_true (is_preset d.detail) (no_first d ds first) in
-    cond-false (not (is_preset d.detail)) _ _ (ap not preset) ∙ settings_taken ds 0 (none_behind d ds first)
+    cond-false (not (is_preset d.detail)) _ _ (ap not preset) ∙ settings_taken ds 0 (none_after d ds first)
 settings_taken (d ∷ ds) (suc n) first =
     let setting = (first 0 d refl).1 (omega arith) in
     cond-true (not (is_preset d.detail)) _ _ (ap not setting)

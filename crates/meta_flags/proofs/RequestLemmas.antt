@@ -24,13 +24,13 @@ command_in (Enable name) = command.Enable
 command_in (Get name) = command.Get
 command_in Toml = command.Toml
 
-abbrev pub behind_in : Request → List (List ℕ)
-behind_in (Set name value) = name ∷ value ∷ []
-behind_in (Enable name) = name ∷ []
-behind_in (Get name) = name ∷ []
-behind_in Toml = []
+abbrev pub after_in : Request → List (List ℕ)
+after_in (Set name value) = name ∷ value ∷ []
+after_in (Enable name) = name ∷ []
+after_in (Get name) = name ∷ []
+after_in Toml = []
 
-pub first_word : (r : Request) → request_words r ≡ command_word (command_in r) ∷ behind_in r
+pub first_word : (r : Request) → request_words r ≡ command_word (command_in r) ∷ after_in r
 first_word (Set name value) = refl
 first_word (Enable name) = refl
 first_word (Get name) = refl
@@ -100,14 +100,14 @@ module _ (line : List ℕ) where
   -- a line without a first word asks nothing
   pub no_first_word : ((word : List ℕ) (rest : List (List ℕ)) → 0 < length word → pieces_of 32 line ≢ word ∷ rest)
       → (r : Request) → Requests line r → ⊥
-  no_first_word none r h = none (command_word (command_in r)) (behind_in r) (command_has_bytes (command_in r))
+  no_first_word none r h = none (command_word (command_in r)) (after_in r) (command_has_bytes (command_in r))
       (request_pieces line r h ∙ first_word r)
 
   module _ (word : List ℕ) (rest : List (List ℕ)) (pieces : pieces_of 32 line ≡ word ∷ rest) where
     -- a line whose first word is no command asks nothing
     pub no_command : ((c : RequestWord) → word ≢ command_word c) → (r : Request) → Requests line r → ⊥
     no_command none r h =
-        let both : word ∷ rest ≡ command_word (command_in r) ∷ behind_in r = sym pieces ∙ request_pieces line r h ∙ first_word r in
+        let both : word ∷ rest ≡ command_word (command_in r) ∷ after_in r = sym pieces ∙ request_pieces line r h ∙ first_word r in
         let same : word ≡ command_word (command_in r) = cc in
         none (command_in r) same
 

@@ -50,14 +50,14 @@ module _ (marked : Descriptor → Bool) (is_named : PlacedSetting → Bool) wher
       → AreNamedAlike marked is_named s d × (is_preset d.detail ≡ false)) → length ss ≤ length ds
       → ((k : ℕ) (d : Descriptor) → length ss ≤ k → slice_get ds k ≡ Some d → is_preset d.detail ≡ true)
       → map marked (settings_in ds) ≡ map is_named ss
-  same_marks [] [] same few behind = refl
-  same_marks [] (d ∷ ds) same few behind =
-      ap (map marked) (cond-false (not (is_preset d.detail)) _ _ (ap not (behind 0 d (omega arith) refl)))
-      ∙ same_marks [] ds (λ k s d at. absurd (cc)) (omega arith) (λ k d past. behind (suc k) d (omega arith))
-  same_marks (s ∷ ss) [] same few behind = absurd (omega (arith, few))
-  same_marks (s ∷ ss) (d ∷ ds) same few behind =
+  same_marks [] [] same few after = refl
+  same_marks [] (d ∷ ds) same few after =
+      ap (map marked) (cond-false (not (is_preset d.detail)) _ _ (ap not (after 0 d (omega arith) refl)))
+      ∙ same_marks [] ds (λ k s d at. absurd (cc)) (omega arith) (λ k d past. after (suc k) d (omega arith))
+  same_marks (s ∷ ss) [] same few after = absurd (omega (arith, few))
+  same_marks (s ∷ ss) (d ∷ ds) same few after =
       let h = same 0 s d refl refl in
-      let rest = same_marks ss ds (λ k s d. same (suc k) s d) (omega (arith, few)) (λ k d past. behind (suc k) d (omega (arith, past))) in
+      let rest = same_marks ss ds (λ k s d. same (suc k) s d) (omega (arith, few)) (λ k d past. after (suc k) d (omega (arith, past))) in
       ap (map marked) (cond-true (not (is_preset d.detail)) _ _ (ap not h.1)) ∙ ap₂ (λ (b : Bool) (bs : List Bool). b ∷ bs) h.0.same rest
 
 module _ (g : GroupDeclaration) (t : GroupContents) (made : AreTablesOfGroup (built_of g) t) where
@@ -78,7 +78,7 @@ module _ (g : GroupDeclaration) (t : GroupContents) (made : AreTablesOfGroup (bu
   -- the marks of a preset are the same
   marks_at : (k : ℕ) (p : BuiltPreset) → slice_get layout.presets k ≡ Some p
       → marks_in t (k * layout.settings_size) ≡ map (λ (s : PlacedSetting). is_one_of p.booleans s.specific) layout.settings
-  marks_at k p p_at = let count = made.count in same_marks _ _ layout.settings t.descriptors like (omega (arith, count)) behind
+  marks_at k p p_at = let count = made.count in same_marks _ _ layout.settings t.descriptors like (omega (arith, count)) after
     where
       like : (j : ℕ) (s : PlacedSetting) (d : Descriptor) → slice_get layout.settings j ≡ Some s → slice_get t.descriptors j ≡ Some d
           → AreNamedAlike (λ (x : Descriptor). is_on
@@ -89,8 +89,8 @@ module _ (g : GroupDeclaration) (t : GroupContents) (made : AreTablesOfGroup (bu
         no_preset t.enumerators (take j layout.settings) s.specific d.detail ((made.entries j d d_at).setting s s_at).detail,
       )
 
-      behind : (j : ℕ) (d : Descriptor) → length layout.settings ≤ j → slice_get t.descriptors j ≡ Some d → is_preset d.detail ≡ true
-      behind j d past d_at =
+      after : (j : ℕ) (d : Descriptor) → length layout.settings ≤ j → slice_get t.descriptors j ≡ Some d → is_preset d.detail ≡ true
+      after j d past d_at =
           let within = slice_get_within t.descriptors j d d_at in
           let count = made.count in
           let n = j - length layout.settings in
@@ -101,8 +101,8 @@ module _ (g : GroupDeclaration) (t : GroupContents) (made : AreTablesOfGroup (bu
   -- a preset is served the same
   preset_at : (e k : ℕ) (d : Descriptor) (p : BuiltPreset) → slice_get t.descriptors e ≡ Some d
       → e ≡ length layout.settings + k → slice_get layout.presets k ≡ Some p → served_entry t d ≡ served_preset layout p
-  preset_at e k d p at behind p_at =
-      ap (served_entry t) ((made.entries e d at).preset k p behind p_at)
+  preset_at e k d p at after p_at =
+      ap (served_entry t) ((made.entries e d at).preset k p after p_at)
       ∙ ap (λ (bs : List Bool). record { name = p.name; kind = PresetKind bs }) (marks_at k p p_at)
 
   -- the entry at a place
@@ -116,14 +116,14 @@ module _ (g : GroupDeclaration) (t : GroupContents) (made : AreTablesOfGroup (bu
         ∙ ap Some (sym (setting_at e d s at s_at))
     | inr preset ↦
         let k = e - length layout.settings in
-        let behind : e ≡ length layout.settings + k = omega (arith, preset) in
+        let after : e ≡ length layout.settings + k = omega (arith, preset) in
         let within = slice_get_within t.descriptors e d at in
         let count = made.count in
-        let (p, p_at) = get_there layout.presets k (omega (arith, within, count, behind)) in
-        ap (slice_get (served_of layout).entries) (behind ∙ ap (λ n. n + k) (sym (length-map layout.settings served_setting)))
+        let (p, p_at) = get_there layout.presets k (omega (arith, within, count, after)) in
+        ap (slice_get (served_of layout).entries) (after ∙ ap (λ n. n + k) (sym (length-map layout.settings served_setting)))
         ∙ get_right (map served_setting layout.settings) (map (served_preset layout) layout.presets) k
         ∙ slice_get-map (served_preset layout) layout.presets k ∙ ap (option_map (served_preset layout)) p_at
-        ∙ ap Some (sym (preset_at e k d p at behind p_at))
+        ∙ ap Some (sym (preset_at e k d p at after p_at))
   ]
 
   -- What is served is the same.

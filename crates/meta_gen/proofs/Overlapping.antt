@@ -91,10 +91,10 @@ pub grows : (old list new : List Constraint) → IsShortest same_constraint old 
 grows old list new h =
     let front : starts_with same_constraint (old ++ list) old ≡ true =
     unlike old (take (length old) (old ++ list)) (sym (take-append_seam old list)) in
-    let behind : stands_at same_constraint (old ++ list) list (length old) ≡ true =
+    let after : stands_at same_constraint (old ++ list) list (length old) ≡ true =
     unlike list (take (length list) (drop (length old) (old ++ list))) (sym (ap (take (length list)) (drop-append_seam old list)
     ∙ take-length list)) in
-    subst (λ n. length new ≤ n) (length-append old list) (h (old ++ list) (length old) front behind)
+    subst (λ n. length new ≤ n) (length-append old list) (h (old ++ list) (length old) front after)
 
 -- one list more
 pub one_list_more : (lists : List (List Constraint)) (list : List Constraint)

@@ -17,8 +17,8 @@ pub const NO_TYPE_SET: u16 = 65535;
 pub fn constraints_from(constraints: &[Constraint], place: usize, count: usize) -> &[Constraint]
     ensures { result.now ≡ take count (drop place constraints.now) }
 {
-    let behind = &constraints[constraints.len().min(place)..];
-    &behind[..behind.len().min(count)]
+    let after = &constraints[constraints.len().min(place)..];
+    &after[..after.len().min(count)]
 }
 
 /// What the type of an operand has to be, by the number of the type (in the crate `OperandConstraint` of the code that it writes).

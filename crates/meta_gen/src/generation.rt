@@ -6,7 +6,7 @@ ghost use Rattle.meta_settings.specs.Layout.{Layout};
 ghost use Rattle.meta_setting_tables.specs.BuiltLayout.{IsBuiltLayout};
 ghost use Rattle.meta_setting_tables.specs.GroupTables.{GroupContents, AreTablesOfGroup};
 ghost use Rattle.meta_setting_tables.specs.WellFormed.{IsWellFormedGroup};
-ghost use Rattle.meta_build.specs.AllDeclared.{ShowsFirst, AreValid};
+ghost use Rattle.meta_build.specs.AllDeclared.{HasFirstFault, AreValid};
 ghost use Rattle.meta_gen.specs.Inferred.{InfersOpcode};
 ghost use Rattle.meta_gen.specs.TablesOf.{AcceptsOpcode};
 ghost use Rattle.meta_gen.specs.WholeTables.{AreWholeTablesOf};
@@ -56,7 +56,7 @@ pub fn tables_of(alloc: Global, built: &Built<'_>) -> Result<Tables, AllocError>
 /// Makes the tables of declarations, as `tables_of` does. Declarations with a fault are refused, and no others: the error is their first
 /// fault, with its numbers. `OutOfMemory` may come in any case.
 pub fn generate(alloc: Global, declarations: &Declarations) -> Result<Tables, DefinitionError>
-    ensures refused { IfErr result (λ e. e ≢ OutOfMemory → ShowsFirst declarations.now e) }
+    ensures refused { IfErr result (λ e. e ≢ OutOfMemory → HasFirstFault declarations.now e) }
     ensures valid { OnOk result (AreValid declarations.now) }
     ensures tables { IfOk result (λ t. AreWholeTablesOf declarations.now t) }
     ensures well_formed { IfOk result IsWellFormed }

@@ -122,13 +122,13 @@ fn differs_rightly(entry: OpcodeConstraints) -> bool
 fn is_entry(sets: usize, constraints: usize, entry: OpcodeConstraints) -> bool
     ensures { IsTrue result ↔ IsWellFormedEntry sets constraints (entry_of entry) }
 {
-    let behind = entry.constraint_offset as usize + (entry.result_count() + entry.value_count());
+    let after = entry.constraint_offset as usize + (entry.result_count() + entry.value_count());
     is_set_offset(sets, entry.typeset_offset)
         && is_set_offset(sets, entry.second_offset)
         && (entry.typeset_offset != NO_TYPE_SET || entry.second_offset == NO_TYPE_SET)
         && is_designated_rightly(entry)
         && differs_rightly(entry)
-        && behind <= constraints
+        && after <= constraints
 }
 
 fn are_entries(sets: usize, constraints: usize, entries: &[OpcodeConstraints]) -> bool

@@ -99,16 +99,16 @@ one_counted (Some c) e = ap Some e
 pub alone_told : (xs : List ℕ) (from place n : ℕ) (counts : ℕ → Option ℕ) (r : Bool) → from ≤ place → slice_get xs place ≡ Some n
     → AreInputCounts (drop from xs) counts → (IsTrue r ↔ (counts n ≡ Some 1)) → (IsTrue r ↔ IsAlone xs from place)
 alone_told xs from place n counts r l at are told =
-    let behind : (j m : ℕ) → from ≤ j → slice_get xs j ≡ Some m → slice_get (drop from xs) (j - from) ≡ Some m =
+    let after : (j m : ℕ) → from ≤ j → slice_get xs j ≡ Some m → slice_get (drop from xs) (j - from) ≡ Some m =
     λ j m l e. get_drop xs from (j - from) ∙ ap (slice_get xs) (omega (arith, l)) ∙ e in (
       (λ t. record {
         is_input = l;
         alone = λ j m lj b a.
             let same : m ≡ n = same_Some m n (sym a ∙ at) in
-            let e = only n (drop from xs) (sym (are n) ∙ counted_one (counts n) (told.0 t)) (place - from) (j - from) (behind place n l at)
-            (behind j n lj (b ∙ ap Some same)) in
+            let e = only n (drop from xs) (sym (are n) ∙ counted_one (counts n) (told.0 t)) (place - from) (j - from) (after place n l at)
+            (after j n lj (b ∙ ap Some same)) in
             omega (arith, e, l, lj);
       }),
-      (λ h. told.1 (one_counted (counts n) (are n ∙ once n (drop from xs) (place - from) (behind place n l at)
+      (λ h. told.1 (one_counted (counts n) (are n ∙ once n (drop from xs) (place - from) (after place n l at)
           (λ j b. let e = h.alone (from + j) n (omega arith) (sym (get_drop xs from j) ∙ b) at in omega (arith, e))))),
     )

@@ -5,7 +5,7 @@ use Rattle.std.proofs.lemmas.Bool.{false≢true}
 use Rattle.std.proofs.lemmas.Option.{same_Some}
 use Rattle.meta_types.specs.Name.{IsName}
 use Rattle.meta_types.specs.declared.fault.DefinitionError.{DefinitionError}
-use Rattle.meta_types.specs.FirstFault.{key_at, ShowsNoneBefore}
+use Rattle.meta_types.specs.FirstFault.{key_at, HasNoneBefore}
 use Rattle.meta_types.proofs.FirstFault.{none_before_first, passed}
 use Rattle.meta_typevar.specs.declared.content.TypeVarContent.{TypeVarContent}
 use Rattle.meta_typevar.specs.Registry.{sets_of}
@@ -36,7 +36,7 @@ module _ (vars : List TypeVarContent) (formats : List InstructionFormat) (b : Bu
 
   -- a rule is kept: on to the next
   pub kept : (rule : Rule) → KeepsRulesBefore vars formats b rule → ((n : ℕ) (e : DefinitionError) → Breaks vars formats b n rule e → ⊥)
-      → (n : ℕ) → ShowsNoneBefore rule_key (Breaks vars formats b n) (key_at 0 0 (suc (rule_number rule)))
+      → (n : ℕ) → HasNoneBefore rule_key (Breaks vars formats b n) (key_at 0 0 (suc (rule_number rule)))
   kept rule before never n = passed (searchable vars formats b n) rule (before n) (never n)
 
   pub kept_name : IsName b.name → KeepsRulesBefore vars formats b OutputRule

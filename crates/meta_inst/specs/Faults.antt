@@ -1,11 +1,11 @@
 -- The faults of declarations, and the order in which they are looked for.
---     ShowsAt d p e          the declarations have the fault e at the position p
+--     HasFaultAt d p e          the declarations have the fault e at the position p
 --     IsFirstFault d e       e is the first fault that they have
 --     IsValid d              they have no fault
 use Rattle.std.specs.Prelude.{◌≡◌, ◌≢◌, ◌<◌, ◌+◌, ◌⊎◌, ℕ, List, [], length, map, slice_get, Option, Some}
 use Rattle.meta_types.specs.Name.{IsName}
 use Rattle.meta_types.specs.SharedNames.{IsDuplicate}
-use Rattle.meta_types.specs.FirstFault.{Key, key_at, IsFirstShown, ShowsNone}
+use Rattle.meta_types.specs.FirstFault.{Key, key_at, IsFirstFound, HasNoFault}
 use Rattle.meta_types.specs.declared.fault.Place.TheVariants.{Instruction as AtInstruction, Format as AtFormat}
 use Rattle.meta_types.specs.declared.fault.DefinitionError.{DefinitionError}
 use Rattle.meta_types.specs.declared.fault.DefinitionError.TheVariants.{BadName, DuplicateName, TooManyOpcodes, BadFormat, FormatClash}
@@ -160,16 +160,16 @@ pub record FormatBreaksAt (d : InstructionSet) (k : ℕ) (rule : FormatRule) (e 
   pub breaks : FormatBreaks d k format rule e
 
 -- The declarations have the fault, with its numbers, at the position. An instruction set has no faults of groups.
-abbrev pub ShowsAt : InstructionSet → Position → DefinitionError → Type 0
-ShowsAt d OfOpcodes e = (e ≡ TooManyOpcodes (length d.instructions)) × HasTooManyOpcodes d
-ShowsAt d (OfInstruction k rule) e = BreaksAt d k rule e ⊎ SharesNameAt d k rule e
-ShowsAt d (OfFormat k rule) e = FormatBreaksAt d k rule e
-ShowsAt d OfTypeSets e = (count : ℕ) × (e ≡ TooManyTypeSets count) × HasTooManyTypeSets d count
+abbrev pub HasFaultAt : InstructionSet → Position → DefinitionError → Type 0
+HasFaultAt d OfOpcodes e = (e ≡ TooManyOpcodes (length d.instructions)) × HasTooManyOpcodes d
+HasFaultAt d (OfInstruction k rule) e = BreaksAt d k rule e ⊎ SharesNameAt d k rule e
+HasFaultAt d (OfFormat k rule) e = FormatBreaksAt d k rule e
+HasFaultAt d OfTypeSets e = (count : ℕ) × (e ≡ TooManyTypeSets count) × HasTooManyTypeSets d count
 
 -- e is the first fault
 abbrev pub IsFirstFault : InstructionSet → DefinitionError → Type 0
-IsFirstFault d e = IsFirstShown position_key (ShowsAt d) e
+IsFirstFault d e = IsFirstFound position_key (HasFaultAt d) e
 
 -- no fault is shown
 abbrev pub IsValid : InstructionSet → Type 0
-IsValid d = ShowsNone (ShowsAt d)
+IsValid d = HasNoFault (HasFaultAt d)

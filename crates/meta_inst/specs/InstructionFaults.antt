@@ -5,7 +5,7 @@
 use Rattle.std.specs.Prelude.{◌≡◌, ◌≢◌, ◌<◌, ◌≤◌, ◌⊎◌, ◌&&◌, ℕ, Bool, true, not, List, length, slice_get, Some, is_some}
 use Rattle.std.specs.List.{position}
 use Rattle.meta_types.specs.Name.{IsName}
-use Rattle.meta_types.specs.FirstFault.{Key, key_at, IsFirstShown, ShowsNone, ShowsNoneBefore}
+use Rattle.meta_types.specs.FirstFault.{Key, key_at, IsFirstFound, HasNoFault, HasNoneBefore}
 use Rattle.meta_types.specs.declared.fault.Place.TheVariants.{Instruction as AtInstruction}
 use Rattle.meta_types.specs.declared.fault.DefinitionError.{DefinitionError}
 use Rattle.meta_types.specs.declared.fault.DefinitionError.TheVariants.{BadName, BadOutput, FormatMismatch, NoControl, BadSecond}
@@ -121,12 +121,12 @@ Breaks vars formats b n MethodRule e = (e ≡ BadImmMethod n) × HasBadImmMethod
 
 -- e tells of the first rule that the instruction breaks
 abbrev pub IsFirstOwnFault : List TypeVarContent → List InstructionFormat → Builder → ℕ → DefinitionError → Type 0
-IsFirstOwnFault vars formats b n e = IsFirstShown rule_key (Breaks vars formats b n) e
+IsFirstOwnFault vars formats b n e = IsFirstFound rule_key (Breaks vars formats b n) e
 
 -- the instruction breaks no rule, whatever its number is
 abbrev pub IsWellMade : List TypeVarContent → List InstructionFormat → Builder → Type 0
-IsWellMade vars formats b = (n : ℕ) → ShowsNone (Breaks vars formats b n)
+IsWellMade vars formats b = (n : ℕ) → HasNoFault (Breaks vars formats b n)
 
 -- it breaks none of the rules before this one
 abbrev pub KeepsRulesBefore : List TypeVarContent → List InstructionFormat → Builder → Rule → Type 0
-KeepsRulesBefore vars formats b rule = (n : ℕ) → ShowsNoneBefore rule_key (Breaks vars formats b n) (rule_key rule)
+KeepsRulesBefore vars formats b rule = (n : ℕ) → HasNoneBefore rule_key (Breaks vars formats b n) (rule_key rule)

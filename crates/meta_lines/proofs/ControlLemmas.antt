@@ -8,7 +8,7 @@ use Rattle.meta_types.specs.TypeParts.{TypeParts, IsType, name_of}
 use Rattle.meta_types.proofs.Names.{one_name}
 use Rattle.meta_lines.specs.Words.{pieces_of}
 use Rattle.meta_types.specs.TypeNumber.{type_with, IsTypeNumber}
-use Rattle.meta_lines.specs.Control.{control_text, IsBehind}
+use Rattle.meta_lines.specs.Control.{control_text, IsAfter}
 use Rattle.meta_lines.proofs.PieceLemmas.{slice_split_cons, only_piece, whole_piece, first_piece}
 use Rattle.meta_lines.proofs.NameLemmas.{has_no_slash, no_dash}
 
@@ -38,8 +38,8 @@ same_names_of t u (Some v) (Some w) h k m n e =
     let second : name_of v ≡ name_of w = cc in
     (one_name t u h k first, ap Some (one_name v w m n second))
 
-pub same_controls : (c d e g : Option TypeParts) → IfSome c IsType → IfSome d IsType → IsBehind c d → IfSome e IsType
-    → IfSome g IsType → IsBehind e g → control_text c d ≡ control_text e g → (c ≡ e) × (d ≡ g)
+pub same_controls : (c d e g : Option TypeParts) → IfSome c IsType → IfSome d IsType → IsAfter c d → IfSome e IsType
+    → IfSome g IsType → IsAfter e g → control_text c d ≡ control_text e g → (c ≡ e) × (d ≡ g)
 same_controls None d None g h m b k n f s = (refl, b refl ∙ sym (f refl))
 same_controls None d (Some u) g h m b k n f s = absurd (control_begins u g s)
 same_controls (Some t) d None g h m b k n f s = absurd (control_begins t d (sym s))
@@ -50,7 +50,7 @@ same_controls (Some t) d (Some u) g h m b k n f s =
 -- a word whose first piece names no type gives no controlling types
 pub refused_first : (word first : List ℕ) (others : List (List ℕ)) → word ≢ codes "-"
     → pieces_of 47 word ≡ first ∷ others → ((t : TypeParts) → IsType t → name_of t ≢ first) → (c d : Option TypeParts)
-    → IfSome c IsType → IfSome d IsType → IsBehind c d → control_text c d ≢ word
+    → IfSome c IsType → IfSome d IsType → IsAfter c d → control_text c d ≢ word
 refused_first word first others dash pieces none None d h m b e = dash (sym e)
 refused_first word first others dash pieces none (Some t) d h m b e =
     none t h (by_names d (sym (control_parted t d h m) ∙ ap (pieces_of 47) e ∙ pieces))
@@ -62,7 +62,7 @@ refused_first word first others dash pieces none (Some t) d h m b e =
 -- nor does one whose second part names none
 pub refused_second : (word first rest : List ℕ) → word ≢ codes "-" → pieces_of 47 word ≡ first ∷ pieces_of 47 rest
     → ((t : TypeParts) → IsType t → name_of t ≢ rest) → (c d : Option TypeParts) → IfSome c IsType → IfSome d IsType
-    → IsBehind c d → control_text c d ≢ word
+    → IsAfter c d → control_text c d ≢ word
 refused_second word first rest dash pieces none None d h m b e = dash (sym e)
 refused_second word first rest dash pieces none (Some t) None h m b e =
     let more = slice_split_cons (λ b. b == 47) rest in
@@ -85,10 +85,10 @@ pub two_controls : (word first rest : List ℕ) (t u : TypeParts) → pieces_of 
     → name_of t ≡ first → name_of u ≡ rest → control_text (Some t) (Some u) ≡ word
 two_controls word first rest t u pieces named second =
     let more = slice_split_cons (λ b. b == 47) rest in
-    let behind : first ++ 47 ∷ rest ≡ join_with_byte 47 (first ∷ pieces_of 47 rest) =
+    let after : first ++ 47 ∷ rest ≡ join_with_byte 47 (first ∷ pieces_of 47 rest) =
     ap (λ r. first ++ 47 ∷ r) (sym (join_with_byte-slice_split 47 rest) ∙ ap (join_with_byte 47) more.is)
     ∙ sym (ap (λ ps. join_with_byte 47 (first ∷ ps)) more.is) in
-    ap₂ (λ (x y : List ℕ). x ++ 47 ∷ y) named second ∙ behind ∙ sym (ap (join_with_byte 47) pieces) ∙ join_with_byte-slice_split 47 word
+    ap₂ (λ (x y : List ℕ). x ++ 47 ∷ y) named second ∙ after ∙ sym (ap (join_with_byte 47) pieces) ∙ join_with_byte-slice_split 47 word
 
 pub control_has_bytes : (c d : Option TypeParts) → 0 < length (control_text c d)
 control_has_bytes None d = omega arith

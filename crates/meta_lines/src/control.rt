@@ -2,7 +2,7 @@ ghost use Rattle.std.specs.Prelude.{◌≡◌, ◌≢◌, Option, IfSome, IfNone
 ghost use Rattle.std.specs.Option.{option_map};
 ghost use Rattle.meta_types.specs.TypeParts.{TypeParts, IsType};
 ghost use Rattle.meta_types.specs.TypeNumber.{type_with, IsTypeNumber};
-ghost use Rattle.meta_lines.specs.Control.{IsBehind, control_text};
+ghost use Rattle.meta_lines.specs.Control.{IsAfter, control_text};
 
 use super::pieces::cut;
 use meta_types::type_number;
@@ -22,8 +22,8 @@ pub fn parse_control(word: &[u8]) -> Option<ControlNumbers>
     ensures found { IfSome result (λ c. control_text (option_map type_with c.control) (option_map type_with c.second) ≡ word.now) }
     ensures known { IfSome result (λ c. IfSome c.control IsTypeNumber) }
     ensures second_known { IfSome result (λ c. IfSome c.second IsTypeNumber) }
-    ensures behind { IfSome result (λ c. IsBehind (option_map type_with c.control) (option_map type_with c.second)) }
-    ensures none { IfNone result ((c d : Option TypeParts) → IfSome c IsType → IfSome d IsType → IsBehind c d
+    ensures after { IfSome result (λ c. IsAfter (option_map type_with c.control) (option_map type_with c.second)) }
+    ensures none { IfNone result ((c d : Option TypeParts) → IfSome c IsType → IfSome d IsType → IsAfter c d
         → control_text c d ≢ word.now) }
 {
     if word == b"-".as_slice() {

@@ -17,7 +17,7 @@ use Rattle.meta_program.proofs.Words.{first_letter, letter}
 pub none_taken : (commands : List CommandForm) (words : List (List ℕ)) → AskWhatIsListed commands
     → (AskSomething words → ⊥) → (BeginWithAsm words → ⊥) → AreTaken commands words → ⊥
 none_taken commands words listed nothing no_asm t =
-    ⊎_elim nothing (λ e. no_asm (record { behind = []; are = e })) (listed words t.are)
+    ⊎_elim nothing (λ e. no_asm (record { after = []; are = e })) (listed words t.are)
 
 -- ---- two words
 
@@ -47,9 +47,9 @@ two_listed commands name word listed t = ⊎_elim
     (λ e. let clash : 2 ≡ 1 = ap length e in absurd (omega (arith, clash)))
     (listed (name ∷ (word ∷ [])) t.are)
 
-begins : (words : List (List ℕ)) (first : List ℕ) (behind : List (List ℕ)) (name : List ℕ) → words ≡ first ∷ behind
+begins : (words : List (List ℕ)) (first : List ℕ) (after : List (List ℕ)) (name : List ℕ) → words ≡ first ∷ after
     → slice_get words 0 ≡ Some name → name ≡ first
-begins words first behind name e at = same_Some name first (sym at ∙ ap (λ (ws : List (List ℕ)). slice_get ws 0) e)
+begins words first after name e at = same_Some name first (sym at ∙ ap (λ (ws : List (List ℕ)). slice_get ws 0) e)
 
 -- the first of words with one word too many
 first_word : (over : Over) (place : ℕ) (name : List ℕ) → IsTooMany over place → slice_get (words_over over) 0 ≡ Some name
@@ -61,9 +61,9 @@ first_word (File path words) place name (inl h) at = inl (begins words.now (code
 first_word (File path words) place name (inr h) at = inr (begins words.now (codes "tables") _ name h.1.are at)
 
 -- the same with a word after it that is no command
-pub none_behind : (commands : List CommandForm) (over : Over) (place : ℕ) (name word : List ℕ) → AskWhatIsListed commands
+pub none_after : (commands : List CommandForm) (over : Over) (place : ℕ) (name word : List ℕ) → AskWhatIsListed commands
     → IsTooMany over place → slice_get (words_over over) 0 ≡ Some name → AreTaken commands (name ∷ (word ∷ [])) → ⊥
-none_behind commands over place name word listed many at t = ⊎_elim (λ is. by (ap first_letter is)) (λ is. by_tables (ap first_letter is))
+none_after commands over place name word listed many at t = ⊎_elim (λ is. by (ap first_letter is)) (λ is. by_tables (ap first_letter is))
     (first_word over place name many at)
   where
     by : first_letter name ≡ 99 → ⊥

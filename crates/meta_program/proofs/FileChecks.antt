@@ -3,7 +3,7 @@ use Rattle.std.proofs.Common.{◌≡◌, ◌≢◌, ◌≤◌, inl, inr, ℕ, Li
 use Rattle.std.specs.Prelude.{◌⊎◌, ⊤, false}
 use Rattle.meta_types.specs.declared.fault.DefinitionError.{DefinitionError}
 use Rattle.meta_text.specs.Outside.{Rose, longest_input, GaveMore, GaveAtMost}
-use Rattle.meta_build.specs.AllDeclared.{Declared, ShowsFirst, AreValid}
+use Rattle.meta_build.specs.AllDeclared.{Declared, HasFirstFault, AreValid}
 use Rattle.meta_run.specs.Run.{IsRun, never_rejecting}
 use Rattle.meta_run.specs.declared.ending.Ending.{Ending}
 use Rattle.meta_run.specs.declared.ending.Ending.TheVariants as ends
@@ -29,7 +29,7 @@ passed Refuse messages none = inr (none refl)
 
 module _ {F S K : Type 0} (file_left : F → Option (List ℕ)) (file_reads : F → ℕ) (left : S → Option (List ℕ)) (reads : S → ℕ)
     (taken : K → Option (List ℕ)) (writes : K → ℕ) (path : List ℕ) (names : Names) (f f' : F) (s s' : S) (k k' : K)
-    (no_fault : (d : Declared) (e : DefinitionError) → AreValid d → ShowsFirst d e → ⊥)
+    (no_fault : (d : Declared) (e : DefinitionError) → AreValid d → HasFirstFault d e → ⊥)
     (one_declared : (text : List ℕ) (d e : Declared) → Declares text d → Declares text e → d ≡ e)
     (not_refused : (p text message : List ℕ) (d : Declared) → IsRefusal p text message → Declares text d → AreValid d → ⊥) where
   abbrev Did : FileEnding → List (List ℕ) → Type 0

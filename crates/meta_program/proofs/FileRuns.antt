@@ -2,7 +2,7 @@
 use Rattle.std.proofs.Common.{◌≡◌, ◌≢◌, ◌≤◌, inl, inr, ℕ, List, Option, Some, refl, sym, ap, subst}
 use Rattle.meta_types.specs.declared.fault.DefinitionError.{DefinitionError}
 use Rattle.meta_text.specs.Outside.{longest_input, GaveAtMost}
-use Rattle.meta_build.specs.AllDeclared.{Declared, ShowsFirst, AreValid}
+use Rattle.meta_build.specs.AllDeclared.{Declared, HasFirstFault, AreValid}
 use Rattle.meta_run.specs.Run.{IsReadWhole, AnswersInput, IsRun, Ran as RanOver}
 use Rattle.meta_run.specs.declared.ending.Ending.{Ending}
 use Rattle.meta_run.specs.declared.ending.Ending.TheVariants as ends
@@ -17,8 +17,8 @@ use Rattle.meta_program.proofs.Loaded.{same_text, gave_within, Loaded, is_refuse
 
 module _ {F S K : Type 0} (file_left : F → Option (List ℕ)) (file_reads : F → ℕ) (left : S → Option (List ℕ)) (reads : S → ℕ) (taken : K
     → Option (List ℕ)) (writes : K → ℕ) (Means : Tool → Type 0) (path : List ℕ) (f f' : F) (s s' : S) (k k' : K)
-    (no_fault : (d : Declared) (e : DefinitionError) → AreValid d → ShowsFirst d e → ⊥)
-    (one_fault : (d : Declared) (e g : DefinitionError) → ShowsFirst d e → ShowsFirst d g → e ≡ g)
+    (no_fault : (d : Declared) (e : DefinitionError) → AreValid d → HasFirstFault d e → ⊥)
+    (one_fault : (d : Declared) (e g : DefinitionError) → HasFirstFault d e → HasFirstFault d g → e ≡ g)
     (one_tool : (t u : Tool) → Means t → Means u → t ≡ u)
     (one_declared : (text : List ℕ) (d e : Declared) → Declares text d → Declares text e → d ≡ e)
     (not_refused : (p text message : List ℕ) (d : Declared) → IsRefusal p text message → Declares text d → AreValid d → ⊥) where

@@ -15,8 +15,8 @@ use Rattle.meta_file_syntax.specs.declared.items.Item.TheVariants as item
 use Rattle.meta_file_declare.specs.Places.{is_group, before_group}
 use Rattle.meta_file_declare.specs.Said.{groups_of, group_with}
 use Rattle.meta_file_declare.proofs.NthPlaces.{nth_is}
-use Rattle.meta_file_declare.proofs.GroupItems.{IsOpened, opened, none_before, count_behind}
-use Rattle.meta_program.specs.Places.{setting_behind, place_in_group}
+use Rattle.meta_file_declare.proofs.GroupItems.{IsOpened, opened, none_before, count_after}
+use Rattle.meta_program.specs.Places.{setting_after, place_in_group}
 use Rattle.meta_program.specs.NamedItems.{DeclaresLaid}
 use Rattle.meta_program.proofs.LaidItems.{IsLaidItem, laid_item}
 
@@ -30,16 +30,16 @@ parts items k j x at =
 below_taken : (items : List Item) (p j : ℕ) (i : Item) → slice_get (take p items) j ≡ Some i → j ≤ p
 below_taken items p j i at = let l = slice_get_within (take p items) j i at in omega (arith, l, length-take p items)
 
-behind_opener : (items : List Item) (groups : List Layout) (g n : ℕ) (group : GroupDeclaration) (layout : Layout) (p : PlacedSetting)
+after_opener : (items : List Item) (groups : List Layout) (g n : ℕ) (group : GroupDeclaration) (layout : Layout) (p : PlacedSetting)
     → (o : IsOpened items g group) → slice_get groups g ≡ Some layout → slice_get layout.settings n ≡ Some p
     → IsLaidItem (before_group (drop (o.place + 1) items)) n p
     → (k : ℕ) × (place_in_group items g (Some n) ≡ Some k) × DeclaresLaid items groups k g n
-behind_opener items groups g n group layout p o built stands h =
-    let behind = drop (o.place + 1) items in
-    let first = position_or_len is_group behind in
-    let none = none_before behind h.place (below_taken behind first h.place h.item h.at) in (
+after_opener items groups g n group layout p o built stands h =
+    let after = drop (o.place + 1) items in
+    let first = position_or_len is_group after in
+    let none = none_before after h.place (below_taken after first h.place h.item h.at) in (
       o.place + 1 + h.place,
-      ap (option_and_then (setting_behind items n)) o.is_place ∙ ap (option_map (λ (k : ℕ). o.place + 1 + k)) h.is_place,
+      ap (option_and_then (setting_after items n)) o.is_place ∙ ap (option_map (λ (k : ℕ). o.place + 1 + k)) h.is_place,
       record {
         item = h.item;
         setting = h.setting;
@@ -47,9 +47,9 @@ behind_opener items groups g n group layout p o built stands h =
         placed = p;
         byte = h.byte;
         boolean = h.boolean;
-        at = sym (get_drop items (o.place + 1) h.place) ∙ get_taken behind first h.place h.item h.at;
+        at = sym (get_drop items (o.place + 1) h.place) ∙ get_taken after first h.place h.item h.at;
         groups_above = ap (λ (is : List Item). count_by is_group is) (parts items o.place h.place (item.Group o.name) o.at)
-            ∙ count_behind (take o.place items) (item.Group o.name) (take h.place behind) refl none.1
+            ∙ count_after (take o.place items) (item.Group o.name) (take h.place after) refl none.1
             ∙ ap (λ (m : ℕ). m + 1) (nth_is is_group items g o.place o.is_place).above;
         says = h.says;
         built = built;
@@ -67,5 +67,5 @@ laid_declared items groups layouts g n x p said are built stands =
     let o = opened items g declared.0 (ap (λ (gs : List GroupDeclaration). slice_get gs g) (sym said) ∙ declared.1) in
     let entries = before_group (drop (o.place + 1) items) in
     let same : built_of (group_with o.name entries) ≡ x = ap built_of (sym o.is) ∙ declared.2 in
-    behind_opener items layouts g n declared.0 x p o built stands
+    after_opener items layouts g n declared.0 x p o built stands
     (laid_item o.name entries n p (ap (λ (l : Layout). slice_get l.settings n) same ∙ stands))

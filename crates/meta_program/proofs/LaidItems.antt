@@ -46,10 +46,10 @@ bool_passes (item.Preset i) = refl
 
 -- the n-th of them, where the first item stands at place s
 record IsPassing (is : Item → Bool) (s : ℕ) (items : List Item) (n : ℕ) (d : SettingDeclaration) : Type 0 where
-  pub behind : ℕ
+  pub after : ℕ
   pub item : Item
-  pub place : slice_get (places_from is s items) n ≡ Some (s + behind)
-  pub at : slice_get items behind ≡ Some item
+  pub place : slice_get (places_from is s items) n ≡ Some (s + after)
+  pub at : slice_get items after ≡ Some item
   pub says : setting_of item ≡ Some d
 
 module _ (is : Item → Bool) (t : SettingDeclaration → Bool) (same : (i : Item) → is i ≡ passes t (setting_of i)) where
@@ -71,9 +71,9 @@ module _ (is : Item → Bool) (t : SettingDeclaration → Bool) (same : (i : Ite
   later : (s : ℕ) (i : Item) (items : List Item) (n m : ℕ) (d : SettingDeclaration) → IsPassing is (s + 1) items n d
       → slice_get (places_from is s (i ∷ items)) m ≡ slice_get (places_from is (s + 1) items) n → IsPassing is s (i ∷ items) m d
   later s i items n m d h e =
-      let next : (s + 1) + h.behind ≡ s + suc h.behind = omega arith in
+      let next : (s + 1) + h.after ≡ s + suc h.after = omega arith in
       record {
-        behind = suc h.behind;
+        after = suc h.after;
         item = h.item;
         place = e ∙ h.place ∙ ap (λ (k : ℕ). Some k) next;
         at = h.at;
@@ -88,7 +88,7 @@ module _ (is : Item → Bool) (t : SettingDeclaration → Bool) (same : (i : Ite
   if_step s i items d x true zero e p rest h =
       let here : s ≡ s + 0 = omega arith in
       record {
-        behind = 0;
+        after = 0;
         item = i;
         place = ap (λ (ks : List ℕ). slice_get ks 0) (places_if s i items x true e p) ∙ ap (λ (k : ℕ). Some k) here;
         at = refl;
@@ -170,14 +170,14 @@ valued_item : (items : List Item) (n : ℕ) (p : PlacedSetting)
 valued_item items n p h =
     let placed = placed_in_bytes 0 (filter has_own_byte (filter_map setting_of items)) n p h in
     let from = passing is_valued has_own_byte valued_passes 0 items n placed.setting placed.at in
-    let same : 0 + from.behind ≡ from.behind = omega arith in
+    let same : 0 + from.after ≡ from.after = omega arith in
     record {
-      place = from.behind;
+      place = from.after;
       item = from.item;
       setting = placed.setting;
       byte = placed.byte;
       boolean = placed.boolean;
-      is_place = get_stays (places_of is_valued items) (places_of is_bool items) n from.behind (from.place ∙ ap (λ (k : ℕ). Some k) same);
+      is_place = get_stays (places_of is_valued items) (places_of is_bool items) n from.after (from.place ∙ ap (λ (k : ℕ). Some k) same);
       at = from.at;
       says = from.says;
       is = placed.is;
@@ -188,9 +188,9 @@ bool_item : (items : List Item) (start j n : ℕ) (p : PlacedSetting) → n ≡ 
 bool_item items start j n p e h =
     let placed = placed_in_bits start 0 (filter declared.is_bool (filter_map setting_of items)) j p h in
     let from = passing is_bool declared.is_bool bool_passes 0 items j placed.setting placed.at in
-    let same : 0 + from.behind ≡ from.behind = omega arith in
+    let same : 0 + from.after ≡ from.after = omega arith in
     record {
-      place = from.behind;
+      place = from.after;
       item = from.item;
       setting = placed.setting;
       byte = placed.byte;

@@ -82,7 +82,7 @@ names_differ (n ∷ names) e (suc j) (suc k) name at_j at_k =
 -- ---- the list
 
 abbrev BeginsSome : CommandForm → Type 0
-BeginsSome row = (behind : List (List ℕ)) × AskSomething (row.name.now ∷ behind)
+BeginsSome row = (after : List (List ℕ)) × AskSomething (row.name.now ∷ after)
 
 pub tool_list : (rows : List CommandForm) → AllByRecursion BeginsSome rows → list_all is_plainly_named rows ≡ true
     → differ (map (λ (row : CommandForm). row.name.now) rows) ≡ true → IsToolList rows

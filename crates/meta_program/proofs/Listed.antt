@@ -34,12 +34,12 @@ one_number : (n : ℕ) → n < 2 ^ 32 → AreNumbersIn (range ∷ []) (decimal n
 one_number n few = record { count = refl; numbers = one_place n few }
 
 -- what stands after a name with one number
-number_behind : (behind : List (List ℕ)) → AreNumbersIn (range ∷ []) behind → (n : ℕ) × (n < 2 ^ 32) × (behind ≡ decimal n ∷ [])
-number_behind [] h = absurd (omega (arith, h.count))
-number_behind (word ∷ []) h =
+number_after : (after : List (List ℕ)) → AreNumbersIn (range ∷ []) after → (n : ℕ) × (n < 2 ^ 32) × (after ≡ decimal n ∷ [])
+number_after [] h = absurd (omega (arith, h.count))
+number_after (word ∷ []) h =
     let it = h.numbers 0 range word (omega arith) refl refl in
     (it.number, omega (arith, it.most), ap (λ w. w ∷ []) it.written)
-number_behind (word ∷ other ∷ words) h = absurd (omega (arith, h.count))
+number_after (word ∷ other ∷ words) h = absurd (omega (arith, h.count))
 
 -- ---- an entry of each command
 
@@ -102,7 +102,7 @@ listed entries have words h =
     record {
       are = record {
         command = it.entry;
-        behind = number_words h.0;
+        after = number_words h.0;
         are = h.1.are ∙ ap (λ n. n ∷ number_words h.0) (sym it.name);
         named = record { place = it.place; at = it.at; name_is = refl };
         numbers = subst (λ r. AreNumbersIn r (number_words h.0)) (sym it.numbers) (numbers_of h.0 h.1.number);
@@ -121,8 +121,8 @@ IsEntry entry = ((c : Command) × HasNumber c × (number_words c ≡ []) × (ent
 pub of_entry : (entries : List CommandForm) (words : List (List ℕ)) (h : AreCommandWords entries words) → IsEntry h.command
     → IsCommand words
 of_entry entries words h (inl (c, number, none, name, no_ranges)) =
-    let behind : h.behind ≡ number_words c = nil_from_length h.behind (h.numbers.count ∙ ap length no_ranges) ∙ sym none in
-    (c, record { number = number; are = h.are ∙ ap₂ (λ n b. n ∷ b) name behind })
+    let after : h.after ≡ number_words c = nil_from_length h.after (h.numbers.count ∙ ap length no_ranges) ∙ sym none in
+    (c, record { number = number; are = h.are ∙ ap₂ (λ n b. n ∷ b) name after })
 of_entry entries words h (inr (name, one)) =
-    let it = number_behind h.behind (subst (λ r. AreNumbersIn r h.behind) one h.numbers) in
+    let it = number_after h.after (subst (λ r. AreNumbersIn r h.after) one h.numbers) in
     (Synth it.0, record { number = it.1; are = h.are ∙ ap₂ (λ n b. n ∷ b) name it.2 })

@@ -24,18 +24,18 @@ pub no_truth : false ≡ true → ⊥
 no_truth e = absurd (cc)
 
 -- the test for the two words of a version decides whether the words name a version that doesn't exist
-pub is_no_version : (words : List (List ℕ)) (name option version : List ℕ) (behind : List (List ℕ)) (test : Bool)
-    → words ≡ name ∷ (option ∷ (version ∷ behind))
+pub is_no_version : (words : List (List ℕ)) (name option version : List ℕ) (after : List (List ℕ)) (test : Bool)
+    → words ≡ name ∷ (option ∷ (version ∷ after))
     → (IsTrue test ↔ ((name ≡ codes "tables") × (option ≡ codes "--version")))
     → ((v : Version) → version ≡ version_word v → ⊥) → (IsTrue test ↔ NameNoVersion words)
-is_no_version words name option version behind test e h none = (
+is_no_version words name option version after test e h none = (
   λ t.
       let both = h.0 t in
       record {
         begin = record {
           version = version;
-          behind = behind;
-          are = e ∙ ap₂ (λ (n o : List ℕ). n ∷ (o ∷ (version ∷ behind))) both.0 both.1;
+          after = after;
+          are = e ∙ ap₂ (λ (n o : List ℕ). n ∷ (o ∷ (version ∷ after))) both.0 both.1;
         };
         none = none;
       },

@@ -1,7 +1,7 @@
 -- A text is refused by at most one message.
 use Rattle.std.proofs.Common.{◌≡◌, inl, inr, ℕ, List, slice_get, Option, Some, sym, ap, ◌∙◌, subst}
 use Rattle.meta_types.specs.declared.fault.DefinitionError.{DefinitionError}
-use Rattle.meta_build.specs.AllDeclared.{Declared, ShowsFirst}
+use Rattle.meta_build.specs.AllDeclared.{Declared, HasFirstFault}
 use Rattle.meta_file_syntax.specs.Encoding.{text_last_line}
 use Rattle.meta_file_syntax.specs.Squeezed.{read_in, read_lines}
 use Rattle.meta_file_syntax.specs.declared.items.Item.{Item}
@@ -77,14 +77,14 @@ fault_one path items lines fault m n h g =
     let line : h.line ≡ g.line = some_is _ h.line g.line h.stands (ap (λ (p : ℕ). slice_get lines p) place ∙ g.stands) in
     h.is ∙ ap (λ (l : ℕ). located path l (fault_why fault)) line ∙ sym g.is
 
-faulty_one : IsReadExactly → DeclareOne → ((d : Declared) (e f : DefinitionError) → ShowsFirst d e → ShowsFirst d f → e ≡ f)
+faulty_one : IsReadExactly → DeclareOne → ((d : Declared) (e f : DefinitionError) → HasFirstFault d e → HasFirstFault d f → e ≡ f)
     → (path text m n : List ℕ) → IsFaulty path text m → IsFaulty path text n → m ≡ n
 faulty_one exactly declare_one one_fault path text m n h g =
     let items = same_items text h.read g.read exactly in
     let declared : h.declared ≡ g.declared = declare_one g.items h.declared g.declared
     (subst (λ (is : List Item). DeclaresItems is h.declared) items h.declares) g.declares in
     let fault : h.fault ≡ g.fault =
-    one_fault g.declared h.fault g.fault (subst (λ (d : Declared). ShowsFirst d h.fault) declared h.first) g.first in
+    one_fault g.declared h.fault g.fault (subst (λ (d : Declared). HasFirstFault d h.fault) declared h.first) g.first in
     let at = subst (λ (is : List Item). IsFaultMessageOf path is h.lines h.fault m) items h.tells in
     let there = subst (λ (ls : List ℕ). IsFaultMessageOf path g.items ls h.fault m) (same_lines text h.read g.read) at in
     let own = subst (λ (e : DefinitionError). IsFaultMessageOf path g.items g.lines e m) fault there in
@@ -93,7 +93,7 @@ faulty_one exactly declare_one one_fault path text m n h g =
 -- ---- each of these excludes the others
 
 module _ (exactly : IsReadExactly) (declare_one : DeclareOne) (right : DeclareNoneWhereWrong) (first : OneIsWrong)
-    (one_fault : (d : Declared) (e f : DefinitionError) → ShowsFirst d e → ShowsFirst d f → e ≡ f) (path text : List ℕ) where
+    (one_fault : (d : Declared) (e f : DefinitionError) → HasFirstFault d e → HasFirstFault d f → e ≡ f) (path text : List ℕ) where
   unread_never : {m : List ℕ} {is : List Item} {ls : List ℕ} → IsUnread path text m → AreReadOf text is ls → ⊥
   unread_never {m} {is} h g = let never = sym h.gives ∙ read_as exactly text is g.reads in cc
 

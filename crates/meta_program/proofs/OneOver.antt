@@ -3,7 +3,7 @@ use Rattle.std.proofs.Common.{◌≡◌, inl, inr, ℕ, List, [], ◌∷◌, len
 use Rattle.meta_program.specs.Over.{IsOption, AskOverFile, IsOver, path_of, asked_of, rust_word}
 use Rattle.meta_program.specs.declared.over.Over.{Over}
 use Rattle.meta_program.specs.declared.over.Over.TheVariants.{Shared, File}
-use Rattle.meta_program.proofs.Words.{first, second, third, behind_two, first_letter}
+use Rattle.meta_program.proofs.Words.{first, second, third, after_two, first_letter}
 
 -- an option begins with a dash, so it isn't `check`
 dash : (option : List ℕ) → IsOption option → first_letter option ≡ 45
@@ -18,9 +18,9 @@ no_check option is e =
 
 module _ (words : List (List ℕ)) where
   -- words after an option are no words of `check`
-  option_never : (option path : List ℕ) (asked behind : List (List ℕ)) → IsOption option → words ≡ option ∷ (path ∷ asked)
-      → words ≡ codes "check" ∷ behind → ⊥
-  option_never option path asked behind is h g = no_check option is (ap first (sym h ∙ g))
+  option_never : (option path : List ℕ) (asked after : List (List ℕ)) → IsOption option → words ≡ option ∷ (path ∷ asked)
+      → words ≡ codes "check" ∷ after → ⊥
+  option_never option path asked after is h g = no_check option is (ap first (sym h ∙ g))
 
   -- two words aren't three
   two_never : (path other : List ℕ) → words ≡ codes "check" ∷ (path ∷ []) → words ≡ codes "check" ∷ (rust_word ∷ (other ∷ [])) → ⊥
@@ -32,7 +32,7 @@ module _ (words : List (List ℕ)) where
   -- words ask one thing, of one file
   pub one_file : (path other : List ℕ) (asked others : List (List ℕ)) → AskOverFile words path asked → AskOverFile words other others
       → (path ≡ other) × (asked ≡ others)
-  one_file path other asked others (inl (o, is, h)) (inl (p, also, g)) = (ap second (sym h ∙ g), ap behind_two (sym h ∙ g))
+  one_file path other asked others (inl (o, is, h)) (inl (p, also, g)) = (ap second (sym h ∙ g), ap after_two (sym h ∙ g))
   one_file path other asked others (inl (o, is, h)) (inr (inl g)) = absurd (option_never o path asked _ is h g.0)
   one_file path other asked others (inl (o, is, h)) (inr (inr g)) = absurd (option_never o path asked _ is h g.0)
   one_file path other asked others (inr (inl h)) (inl (p, also, g)) = absurd (option_never p other others _ also g h.0)

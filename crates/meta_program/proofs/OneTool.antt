@@ -95,9 +95,9 @@ same_version Three Two e = let no : 51 ≡ 50 = e in absurd (omega arith)
 same_version Three Three e = refl
 
 -- the words after the first
-abbrev behind_first : List (List ℕ) → List (List ℕ)
-behind_first [] = []
-behind_first (word ∷ words) = words
+abbrev after_first : List (List ℕ) → List (List ℕ)
+after_first [] = []
+after_first (word ∷ words) = words
 
 pub same_tool : ((c d : Command) (words : List (List ℕ)) → AreWordsOf c words → AreWordsOf d words → c ≡ d)
     → ((words : List (List ℕ)) (a b : Form) → words ≡ words_for a → words ≡ words_for b → a ≡ b)
@@ -132,7 +132,7 @@ same_tool one_command one_form t u words h g = by t u h g (sym (tag_of_words t w
     by (Asm a) (Run b) h g e = let no : 2 ≡ 0 = e in absurd (cc)
     by (Asm a) (TablesIn b) h g e = let no : 2 ≡ 6 = e in absurd (cc)
     by (Asm a) Verify h g e = let no : 2 ≡ 1 = e in absurd (cc)
-    by (Asm f) (Asm i) h g e = ap Asm (one_form (behind_first words) f i (ap behind_first h) (ap behind_first g))
+    by (Asm f) (Asm i) h g e = ap Asm (one_form (after_first words) f i (ap after_first h) (ap after_first g))
     by (Asm a) Flags h g e = let no : 2 ≡ 3 = e in absurd (cc)
     by (Asm a) Audit h g e = let no : 2 ≡ 4 = e in absurd (cc)
     by (Asm a) Check h g e = let no : 2 ≡ 5 = e in absurd (cc)

@@ -1,7 +1,7 @@
 -- What a text declares.
 use Rattle.std.proofs.Common.{◌≡◌, ◌↔◌, inl, inr, ℕ, List, Ok, sym, ◌∙◌, subst}
 use Rattle.meta_types.specs.declared.fault.DefinitionError.{DefinitionError}
-use Rattle.meta_build.specs.AllDeclared.{Declared, ShowsFirst, AreValid}
+use Rattle.meta_build.specs.AllDeclared.{Declared, HasFirstFault, AreValid}
 use Rattle.meta_file_syntax.specs.Squeezed.{read_in}
 use Rattle.meta_file_syntax.specs.Spelling.{spelled_all}
 use Rattle.meta_file_syntax.specs.declared.items.Item.{Item}
@@ -38,7 +38,7 @@ one_declared exactly declare_one text d e h g =
     declare_one g.items d e (subst (λ (is : List Item). DeclaresItems is d) same h.declared) g.declared
 
 pub not_refused : IsReadExactly → DeclareOne → DeclareNoneWhereWrong
-    → ((d : Declared) (e : DefinitionError) → AreValid d → ShowsFirst d e → ⊥)
+    → ((d : Declared) (e : DefinitionError) → AreValid d → HasFirstFault d e → ⊥)
     → (path text message : List ℕ) (d : Declared) → IsRefusal path text message → Declares text d → AreValid d → ⊥
 not_refused exactly declare_one right no_fault path text message d (inl unread) h valid =
     let never = sym unread.gives ∙ read_as exactly text h.items h.reads in cc

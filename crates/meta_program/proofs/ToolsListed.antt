@@ -12,7 +12,7 @@ use Rattle.meta_query.specs.declared.command.Command.{Command}
 use Rattle.meta_asm.specs.Form.{words_for}
 use Rattle.meta_program.specs.TablesIn.{version_words}
 use Rattle.meta_program.proofs.Listed.{is_other, no_numbers, others, HaveEntry, listed, IsEntry, of_entry}
-use Rattle.meta_program.specs.Tool.{AskSomething, BeginWithNameOf, HaveWordBehind, lone_name}
+use Rattle.meta_program.specs.Tool.{AskSomething, BeginWithNameOf, HaveWordAfter, lone_name}
 use Rattle.meta_program.specs.declared.tool.Lone.{Lone}
 use Rattle.meta_program.specs.declared.tool.Lone.TheVariants as lone
 use Rattle.meta_program.specs.declared.tool.Tool.TheVariants.{Run, TablesIn, Verify, Asm, Flags, Audit, Check, Describe}
@@ -31,7 +31,7 @@ taken : (entries : List CommandForm) (name : List ℕ) → HavePlainEntry entrie
 taken entries name it words e = record {
   are = record {
     command = it.entry;
-    behind = [];
+    after = [];
     are = e ∙ ap (λ n. n ∷ []) (sym it.name_is);
     named = record { place = it.place; at = it.at; name_is = refl };
     numbers = subst (λ r. AreNumbersIn r []) (sym it.none) no_numbers;
@@ -41,7 +41,7 @@ taken entries name it words e = record {
 
 pub all_listed : (entries : List CommandForm) → ((c : Command) → HaveEntry entries c)
     → ((l : Lone) → HavePlainEntry entries (lone_name l)) → (words : List (List ℕ)) → AskSomething words
-    → AreTaken entries words ⊎ HaveWordBehind words
+    → AreTaken entries words ⊎ HaveWordAfter words
 all_listed entries commands lones words (Run command, h) = inl (listed entries commands words (command, h))
 all_listed entries commands lones words (TablesIn version, h) = inr (inr (version, h))
 all_listed entries commands lones words (Verify, h) = inl (taken entries (codes "verify") (lones lone.Verify) words h)
@@ -52,22 +52,22 @@ all_listed entries commands lones words (Check, h) = inl (taken entries (codes "
 all_listed entries commands lones words (Describe, h) = inl (taken entries (codes "describe") (lones lone.Describe) words h)
 
 begins : (entries : List CommandForm) (words : List (List ℕ)) → AreTaken entries words → BeginWithNameOf entries words
-begins entries words h = (h.are.named.place, h.are.command, h.are.behind, h.are.named.at, h.are.are)
+begins entries words h = (h.are.named.place, h.are.command, h.are.after, h.are.named.at, h.are.are)
 
 -- words that are the name of an entry and more begin with this name
-named : (entries : List CommandForm) (name : List ℕ) (entry : CommandForm) → IsNamed entries name entry → (words behind : List (List ℕ))
-    → words ≡ name ∷ behind → BeginWithNameOf entries words
-named entries name entry it words behind e = (it.place, entry, behind, it.at, e ∙ ap (λ n. n ∷ behind) (sym it.name_is))
+named : (entries : List CommandForm) (name : List ℕ) (entry : CommandForm) → IsNamed entries name entry → (words after : List (List ℕ))
+    → words ≡ name ∷ after → BeginWithNameOf entries words
+named entries name entry it words after e = (it.place, entry, after, it.at, e ∙ ap (λ n. n ∷ after) (sym it.name_is))
 
 -- The entries begin all words that ask something: those that they list, and, if one is that of `asm` and one that of `tables`, those with
 -- another word after the name.
 pub all_named : (entries : List CommandForm) (asm tables : CommandForm) → IsNamed entries (codes "asm") asm
     → IsNamed entries (codes "tables") tables
-    → ((words : List (List ℕ)) → AskSomething words → AreTaken entries words ⊎ HaveWordBehind words)
+    → ((words : List (List ℕ)) → AskSomething words → AreTaken entries words ⊎ HaveWordAfter words)
     → (words : List (List ℕ)) → AskSomething words → BeginWithNameOf entries words
 all_named entries asm tables is_asm is_tables all words h = of_listed (all words h)
   where
-    of_listed : AreTaken entries words ⊎ HaveWordBehind words → BeginWithNameOf entries words
+    of_listed : AreTaken entries words ⊎ HaveWordAfter words → BeginWithNameOf entries words
     of_listed (inl it) = begins entries words it
     of_listed (inr (inl (form, e))) = named entries (codes "asm") asm is_asm words (words_for form) e
     of_listed (inr (inr (version, e))) = named entries (codes "tables") tables is_tables words (version_words version) e
@@ -91,7 +91,7 @@ lone_words lone.Describe words e = (Describe, e)
 alone : (entries : List CommandForm) (words : List (List ℕ)) (h : AreCommandWords entries words) (name : List ℕ)
     → h.command.name.now ≡ name → h.command.numbers.now ≡ [] → words ≡ name ∷ []
 alone entries words h name e none =
-    h.are ∙ ap₂ (λ n b. n ∷ b) e (nil_from_length h.behind (h.numbers.count ∙ ap length none))
+    h.are ∙ ap₂ (λ n b. n ∷ b) e (nil_from_length h.after (h.numbers.count ∙ ap length none))
 
 of_tool_entry : (entries : List CommandForm) (words : List (List ℕ)) (h : AreCommandWords entries words)
     → IsToolEntry h.command → AskSomething words ⊎ (words ≡ codes "asm" ∷ [])

@@ -16,10 +16,10 @@ third (a ∷ []) = []
 third (a ∷ b ∷ []) = []
 third (a ∷ b ∷ c ∷ words) = c
 
-abbrev pub behind_two : List (List ℕ) → List (List ℕ)
-behind_two [] = []
-behind_two (a ∷ []) = []
-behind_two (a ∷ b ∷ words) = words
+abbrev pub after_two : List (List ℕ) → List (List ℕ)
+after_two [] = []
+after_two (a ∷ []) = []
+after_two (a ∷ b ∷ words) = words
 
 abbrev pub first_letter : List ℕ → ℕ
 first_letter [] = 0

@@ -3,7 +3,7 @@
 --     IsRefusal path text message         the message says what is wrong first
 use Rattle.std.specs.Prelude.{◌≡◌, ◌⊎◌, ℕ, List, Err, slice_get, Some}
 use Rattle.meta_types.specs.declared.fault.DefinitionError.{DefinitionError}
-use Rattle.meta_build.specs.AllDeclared.{Declared, ShowsFirst}
+use Rattle.meta_build.specs.AllDeclared.{Declared, HasFirstFault}
 use Rattle.meta_file_syntax.specs.Encoding.{text_last_line}
 use Rattle.meta_file_syntax.specs.Squeezed.{read_in, read_lines}
 use Rattle.meta_file_syntax.specs.declared.items.Item.{Item}
@@ -85,7 +85,7 @@ pub record IsFaulty (path text message : List ℕ) : Type 0 where
   pub declared : Declared
   pub declares : DeclaresItems items declared
   pub fault : DefinitionError
-  pub first : ShowsFirst declared fault
+  pub first : HasFirstFault declared fault
   pub tells : IsFaultMessageOf path items lines fault message
 
 -- why the text is refused, for one of these three reasons

@@ -30,13 +30,13 @@ setting_of (part.SettingType n) = Some n
 setting_of (part.Value n value) = Some n
 
 -- the place of the item that declares this setting of the group which the item at place p opens
-abbrev pub setting_behind : List Item → ℕ → ℕ → Option ℕ
-setting_behind items n p = option_map (λ k. p + 1 + k) (slice_get (laid_places (before_group (drop (p + 1) items))) n)
+abbrev pub setting_after : List Item → ℕ → ℕ → Option ℕ
+setting_after items n p = option_map (λ k. p + 1 + k) (slice_get (laid_places (before_group (drop (p + 1) items))) n)
 
 -- the item that opens a group, or declares one of its settings
 abbrev pub place_in_group : List Item → ℕ → Option ℕ → Option ℕ
 place_in_group items g None = place_of_group items g
-place_in_group items g (Some n) = option_and_then (setting_behind items n) (place_of_group items g)
+place_in_group items g (Some n) = option_and_then (setting_after items n) (place_of_group items g)
 
 -- an entry of a group has no name here: those of a setting are at its group
 abbrev pub place_of_part : List Item → Place → Option ℕ → Option ℕ

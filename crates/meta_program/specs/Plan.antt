@@ -18,8 +18,8 @@ use Rattle.meta_program.specs.declared.plan.Plan.TheVariants.{Help, Version, Sha
 -- `tables --version` and a word, and any words after it
 pub record BeginWithVersion (words : List (List ℕ)) : Type 0 where
   pub version : List ℕ
-  pub behind : List (List ℕ)
-  pub are : words ≡ codes "tables" ∷ (codes "--version" ∷ (version ∷ behind))
+  pub after : List (List ℕ)
+  pub are : words ≡ codes "tables" ∷ (codes "--version" ∷ (version ∷ after))
 
 -- the words begin in this way, or those that they ask of a file do
 abbrev pub AskForVersion : List (List ℕ) → Type 0

@@ -2,7 +2,7 @@
 --     AreToolWords tool words       the words ask this
 --     BeginWithNameOf commands words    the first word is the name of one of the commands
 --     IsToolList commands           their names are plain and differ, and each begins words that ask something
---     HaveWordBehind words          a word that is no number comes after the name: a form of `asm`, or a version of the tables
+--     HaveWordAfter words          a word that is no number comes after the name: a form of `asm`, or a version of the tables
 --     texts_of tool                 the texts that answer it
 use Rattle.std.specs.Prelude.{◌≡◌, ◌⊎◌, ℕ, Bool, true, false, List, [], ◌∷◌, codes, map, slice_get, Some}
 use Rattle.meta_types.specs.SharedNames.{AreDifferentNames}
@@ -50,19 +50,19 @@ AskSomething words = (tool : Tool) × AreToolWords tool words
 
 -- the first word is the name of one of the commands
 abbrev pub BeginWithNameOf : List CommandForm → List (List ℕ) → Type 0
-BeginWithNameOf commands words = (k : ℕ) × (command : CommandForm) × (behind : List (List ℕ))
-    × (slice_get commands k ≡ Some command) × (words ≡ command.name.now ∷ behind)
+BeginWithNameOf commands words = (k : ℕ) × (command : CommandForm) × (after : List (List ℕ))
+    × (slice_get commands k ≡ Some command) × (words ≡ command.name.now ∷ after)
 
 -- the names of the commands are plain and differ, and each begins words that ask something
 pub record IsToolList (commands : List CommandForm) : Type 0 where
   pub plain : ArePlainlyNamed commands
   pub once : AreDifferentNames (map (λ (command : CommandForm). command.name.now) commands)
   pub only : (k : ℕ) (command : CommandForm) → slice_get commands k ≡ Some command
-      → (behind : List (List ℕ)) × AskSomething (command.name.now ∷ behind)
+      → (after : List (List ℕ)) × AskSomething (command.name.now ∷ after)
 
 -- a word that is no number comes after the name: a form of `asm`, or a version of the tables
-abbrev pub HaveWordBehind : List (List ℕ) → Type 0
-HaveWordBehind words = ((form : Form) × (words ≡ codes "asm" ∷ words_for form))
+abbrev pub HaveWordAfter : List (List ℕ) → Type 0
+HaveWordAfter words = ((form : Form) × (words ≡ codes "asm" ∷ words_for form))
     ⊎ ((version : Version) × (words ≡ codes "tables" ∷ version_words version))
 
 -- whether there is an input

@@ -25,28 +25,28 @@ pub record CheckMore (words : List (List ℕ)) : Type 0 where
   pub path : List ℕ
   pub not_rust : path ≢ rust_word
   pub word : List ℕ
-  pub behind : List (List ℕ)
-  pub are : words ≡ codes "check" ∷ (path ∷ (word ∷ behind))
+  pub after : List (List ℕ)
+  pub are : words ≡ codes "check" ∷ (path ∷ (word ∷ after))
 
 -- the same, and names are refused: `check --rust FILE WORD ..`
 pub record CheckRustMore (words : List (List ℕ)) : Type 0 where
   pub path : List ℕ
   pub word : List ℕ
-  pub behind : List (List ℕ)
-  pub are : words ≡ codes "check" ∷ (rust_word ∷ (path ∷ (word ∷ behind)))
+  pub after : List (List ℕ)
+  pub are : words ≡ codes "check" ∷ (rust_word ∷ (path ∷ (word ∷ after)))
 
 -- the same for a file that is named before: `check --rust WORD ..`
 pub record RustMore (words : List (List ℕ)) : Type 0 where
   pub word : List ℕ
-  pub behind : List (List ℕ)
-  pub are : words ≡ codes "check" ∷ (rust_word ∷ (word ∷ behind))
+  pub after : List (List ℕ)
+  pub are : words ≡ codes "check" ∷ (rust_word ∷ (word ∷ after))
 
 -- tables in a version, and a word more: `tables --version N WORD ..`
 pub record VersionMore (words : List (List ℕ)) : Type 0 where
   pub version : Version
   pub word : List ℕ
-  pub behind : List (List ℕ)
-  pub are : words ≡ codes "tables" ∷ (codes "--version" ∷ (version_word version ∷ (word ∷ behind)))
+  pub after : List (List ℕ)
+  pub are : words ≡ codes "tables" ∷ (codes "--version" ∷ (version_word version ∷ (word ∷ after)))
 
 -- the word at this place, from 0, is the first that is too many after a check or tables in a version
 abbrev pub IsTooMany : Over → ℕ → Type 0
@@ -61,8 +61,8 @@ pub record NameNoVersion (words : List (List ℕ)) : Type 0 where
 
 -- the words begin with `asm`
 pub record BeginWithAsm (words : List (List ℕ)) : Type 0 where
-  pub behind : List (List ℕ)
-  pub are : words ≡ codes "asm" ∷ behind
+  pub after : List (List ℕ)
+  pub are : words ≡ codes "asm" ∷ after
 
 -- the words that are asked
 abbrev pub words_over : Over → List (List ℕ)

@@ -1,6 +1,6 @@
 ghost use Rattle.std.specs.Prelude.{◌≡◌, ◌↔◌, ℕ, List, Err, IfOk, IfSome, IfNone, IsTrue};
 ghost use Rattle.meta_types.specs.declared.fault.DefinitionError.{DefinitionError};
-ghost use Rattle.meta_build.specs.AllDeclared.{Declared, ShowsFirst, AreValid};
+ghost use Rattle.meta_build.specs.AllDeclared.{Declared, HasFirstFault, AreValid};
 ghost use Rattle.meta_file_declare.specs.AllItems.{Declares as DeclaresItems};
 ghost use Rattle.meta_file_reader.specs.Reason.{reason_of};
 ghost use Rattle.meta_file_load.specs.Why.{located};
@@ -119,7 +119,7 @@ fn fault_in(
     declarations: &Declarations,
 ) -> Result<Option<DefinitionError>, AllocError>
     ensures none { IfOk result (λ o. IfNone o (AreValid declarations.now)) }
-    ensures some { IfOk result (λ o. IfSome o (ShowsFirst declarations.now)) }
+    ensures some { IfOk result (λ o. IfSome o (HasFirstFault declarations.now)) }
 {
     match build_all(alloc, declarations) {
         Ok(_built) => Ok(None),

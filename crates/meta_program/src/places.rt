@@ -1,6 +1,6 @@
 ghost use Rattle.std.specs.Prelude.{◌≡◌, ◌<◌, Some, length, IfOk};
 ghost use Rattle.meta_file_declare.specs.Places.{place_of_inst, place_of_group};
-ghost use Rattle.meta_program.specs.Places.{setting_of, setting_behind, place_in_group, place_of_name, ArePlaces};
+ghost use Rattle.meta_program.specs.Places.{setting_of, setting_after, place_in_group, place_of_name, ArePlaces};
 
 use meta_file_declare::laid_setting;
 use meta_file_syntax::Item;
@@ -31,12 +31,12 @@ fn setting_of(part: Part) -> Option<u64>
 
 /// The place of the item that declares a setting of the group which the item at this place opens.
 #[tactic(auto, using(crate::proofs::Within::setting_within))]
-fn setting_behind(items: &[Item], setting: u64, opener: usize) -> Option<usize>
+fn setting_after(items: &[Item], setting: u64, opener: usize) -> Option<usize>
     requires { opener < length items.now }
-    ensures { result ≡ setting_behind items.now setting opener }
+    ensures { result ≡ setting_after items.now setting opener }
 {
-    let (_, behind) = items.split_at(opener + 1);
-    let within = laid_setting(behind, setting)?;
+    let (_, after) = items.split_at(opener + 1);
+    let within = laid_setting(after, setting)?;
     Some(opener + 1 + within)
 }
 
@@ -84,7 +84,7 @@ impl ItemPlaces {
         ensures { result ≡ place_in_group items.now group (Some setting) }
     {
         let opener = self.of_group(items, group)?;
-        setting_behind(items, setting, opener)
+        setting_after(items, setting, opener)
     }
 
     fn in_group(&self, items: &[Item], group: u64, setting: Option<u64>) -> Option<usize>

@@ -31,7 +31,7 @@ fn begin_with_version(words: &[Text]) -> bool
     ensures { IsTrue result ↔ BeginWithVersion words.now }
 {
     match words {
-        [name, option, _version, _behind @ ..] => are_for_version(name, option),
+        [name, option, _version, _after @ ..] => are_for_version(name, option),
         _ => false,
     }
 }

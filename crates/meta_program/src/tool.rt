@@ -81,13 +81,13 @@ pub fn is_asm(word: &Text) -> bool
     word.as_bytes() == b"asm".as_slice()
 }
 
-fn asm_form_of(words: &[Text], name: &Text, behind: &[Text]) -> Option<Form>
-    requires { words.now ≡ name.now ∷ behind.now }
+fn asm_form_of(words: &[Text], name: &Text, after: &[Text]) -> Option<Form>
+    requires { words.now ≡ name.now ∷ after.now }
     ensures some { IfSome result (λ form. words.now ≡ codes "asm" ∷ words_for form) }
     ensures none { IfNone result ((form : spec_form.Form) → words.now ≢ codes "asm" ∷ words_for form) }
 {
     if is_asm(name) {
-        return Form::parse(behind);
+        return Form::parse(after);
     }
     None
 }
@@ -98,7 +98,7 @@ fn asm_form(words: &[Text]) -> Option<Form>
 {
     match words {
         [] => None,
-        [name, behind @ ..] => asm_form_of(words, name, behind),
+        [name, after @ ..] => asm_form_of(words, name, after),
     }
 }
 

@@ -1,6 +1,6 @@
 ghost use Rattle.std.specs.Prelude.{◌≡◌, ◌⊎◌, ◌∷◌, [], ℕ, List, codes};
 ghost use Rattle.meta_command_line.specs.Misuse.{AreCommandWords, AreTaken};
-ghost use Rattle.meta_program.specs.Tool.{AskSomething, BeginWithNameOf, IsToolList, HaveWordBehind};
+ghost use Rattle.meta_program.specs.Tool.{AskSomething, BeginWithNameOf, IsToolList, HaveWordAfter};
 
 use meta_command_line::{CommandForm, Range};
 
@@ -71,7 +71,7 @@ pub const COMMANDS: &[CommandForm] = &[
 /// is listed alone, and asks something only with a form after it, and `tables` may have a version after it. So a usage error names each
 /// command, and nothing else.
 pub fn listed_tools() -> &'static [CommandForm]
-    ensures listed { (words : List (List ℕ)) → AskSomething words → AreTaken result.now words ⊎ HaveWordBehind words }
+    ensures listed { (words : List (List ℕ)) → AskSomething words → AreTaken result.now words ⊎ HaveWordAfter words }
     // All words that ask something begin with a name of the list.
     ensures named { (words : List (List ℕ)) → AskSomething words → BeginWithNameOf result.now words }
     ensures commands { (words : List (List ℕ)) → AreCommandWords result.now words → AskSomething words ⊎ (words ≡ codes "asm" ∷ []) }

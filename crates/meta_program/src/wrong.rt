@@ -46,7 +46,7 @@ fn are_check_more(words: &[Text]) -> bool
     ensures { IsTrue result ↔ CheckMore words.now }
 {
     match words {
-        [name, path, _word, _behind @ ..] => is_check(name) && !is_rust(path),
+        [name, path, _word, _after @ ..] => is_check(name) && !is_rust(path),
         _ => false,
     }
 }
@@ -56,7 +56,7 @@ fn are_check_rust_more(words: &[Text]) -> bool
     ensures { IsTrue result ↔ CheckRustMore words.now }
 {
     match words {
-        [name, rust, _path, _word, _behind @ ..] => is_check(name) && is_rust(rust),
+        [name, rust, _path, _word, _after @ ..] => is_check(name) && is_rust(rust),
         _ => false,
     }
 }
@@ -66,7 +66,7 @@ fn are_rust_more(words: &[Text]) -> bool
     ensures { IsTrue result ↔ RustMore words.now }
 {
     match words {
-        [name, rust, _word, _behind @ ..] => is_check(name) && is_rust(rust),
+        [name, rust, _word, _after @ ..] => is_check(name) && is_rust(rust),
         _ => false,
     }
 }
@@ -75,7 +75,7 @@ fn are_version_more(words: &[Text]) -> bool
     ensures { IsTrue result ↔ VersionMore words.now }
 {
     match words {
-        [name, option, version, _word, _behind @ ..] => {
+        [name, option, version, _word, _after @ ..] => {
             are_for_version(name, option) && is_version(version)
         }
         _ => false,
@@ -83,14 +83,14 @@ fn are_version_more(words: &[Text]) -> bool
 }
 
 /// Whether the words are `tables --version` and no version, if there are at least three.
-fn no_version_behind(
+fn no_version_after(
     words: &[Text],
     name: &Text,
     option: &Text,
     version: &Text,
-    behind: &[Text],
+    after: &[Text],
 ) -> bool
-    requires { words.now ≡ name.now ∷ (option.now ∷ (version.now ∷ behind.now)) }
+    requires { words.now ≡ name.now ∷ (option.now ∷ (version.now ∷ after.now)) }
     ensures { IsTrue result ↔ NameNoVersion words.now }
 {
     if is_version(version) {
@@ -104,8 +104,8 @@ fn name_no_version(words: &[Text]) -> bool
     ensures { IsTrue result ↔ NameNoVersion words.now }
 {
     match words {
-        [name, option, version, behind @ ..] => {
-            no_version_behind(words, name, option, version, behind)
+        [name, option, version, after @ ..] => {
+            no_version_after(words, name, option, version, after)
         }
         _ => false,
     }
@@ -115,7 +115,7 @@ fn begin_with_asm(words: &[Text]) -> bool
     ensures { IsTrue result ↔ BeginWithAsm words.now }
 {
     match words {
-        [name, _behind @ ..] => is_asm(name),
+        [name, _after @ ..] => is_asm(name),
         _ => false,
     }
 }

@@ -48,24 +48,24 @@ same_number : (m n : ℕ) → m < 2 ^ 32 → n < 2 ^ 32 → decimal m ≡ decima
 same_number m n few less e = decimal_injective m n (omega arith) (omega arith) e
 
 -- the words are no number, and this is 0, or they are this number
-abbrev StandsBehind : List (List ℕ) → ℕ → Type 0
-StandsBehind words n = ((words ≡ []) × (n ≡ 0)) ⊎ ((words ≡ decimal n ∷ []) × (n < 2 ^ 32))
+abbrev StandsAfter : List (List ℕ) → ℕ → Type 0
+StandsAfter words n = ((words ≡ []) × (n ≡ 0)) ⊎ ((words ≡ decimal n ∷ []) × (n < 2 ^ 32))
 
-behind_of : (c : Command) → HasNumber c → StandsBehind (number_words c) (command_number c)
-behind_of Query h = inl (refl, refl)
-behind_of Recheck h = inl (refl, refl)
-behind_of Tables h = inl (refl, refl)
-behind_of Types h = inl (refl, refl)
-behind_of Settings h = inl (refl, refl)
-behind_of Instructions h = inl (refl, refl)
-behind_of Builder h = inl (refl, refl)
-behind_of (Synth n) h = inr (refl, h)
+after_of : (c : Command) → HasNumber c → StandsAfter (number_words c) (command_number c)
+after_of Query h = inl (refl, refl)
+after_of Recheck h = inl (refl, refl)
+after_of Tables h = inl (refl, refl)
+after_of Types h = inl (refl, refl)
+after_of Settings h = inl (refl, refl)
+after_of Instructions h = inl (refl, refl)
+after_of Builder h = inl (refl, refl)
+after_of (Synth n) h = inr (refl, h)
 
-one_behind : (words others : List (List ℕ)) (m n : ℕ) → words ≡ others → StandsBehind words m → StandsBehind others n → m ≡ n
-one_behind words others m n e (inl (none, m_is)) (inl (no_other, n_is)) = m_is ∙ sym n_is
-one_behind words others m n e (inl (none, m_is)) (inr (some, few)) = absurd (cc)
-one_behind words others m n e (inr (some, few)) (inl (none, n_is)) = absurd (cc)
-one_behind words others m n e (inr (some, few)) (inr (other, less)) =
+one_after : (words others : List (List ℕ)) (m n : ℕ) → words ≡ others → StandsAfter words m → StandsAfter others n → m ≡ n
+one_after words others m n e (inl (none, m_is)) (inl (no_other, n_is)) = m_is ∙ sym n_is
+one_after words others m n e (inl (none, m_is)) (inr (some, few)) = absurd (cc)
+one_after words others m n e (inr (some, few)) (inl (none, n_is)) = absurd (cc)
+one_after words others m n e (inr (some, few)) (inr (other, less)) =
     let same : decimal m ≡ decimal n = cc in
     same_number m n few less same
 
@@ -75,9 +75,9 @@ pub same_command : (c d : Command) (words : List (List ℕ)) → AreWordsOf c wo
 same_command c d words h g =
     let same : command_words c ≡ command_words d = sym h.are ∙ g.are in
     let name : command_name c ≡ command_name d = cc in
-    let behind : number_words c ≡ number_words d = cc in
+    let after : number_words c ≡ number_words d = cc in
     let number : command_number c ≡ command_number d =
-    one_behind (number_words c) (number_words d) (command_number c) (command_number d) behind (behind_of c h.number) (behind_of d g.number)
+    one_after (number_words c) (number_words d) (command_number c) (command_number d) after (after_of c h.number) (after_of d g.number)
     in
     let found : Some c ≡ Some d = sym (finds c) ∙ ap₂ numbered_command name number ∙ finds d in
     cc

@@ -22,8 +22,8 @@ use Rattle.meta_setting_tables.specs.declared.descriptor.Detail.{Detail}
 use Rattle.meta_setting_tables.specs.declared.descriptor.Detail.TheVariants.{Bool as ABool, Enum as AnEnum, Num as ANum, Preset}
 use Rattle.meta_table_reader.specs.Spans.{lacks}
 use Rattle.meta_table_reader.proofs.Lacking.{both_lack, lacks_by, any_number_lacks}
-use Rattle.meta_table_reader.proofs.ItemsRead.{all_first, all_behind}
-use Rattle.meta_table_text.specs.TypeSetText.{parted_behind, powers, held, members, part_of, masks_text, set_or_nothing}
+use Rattle.meta_table_reader.proofs.ItemsRead.{all_first, all_after}
+use Rattle.meta_table_text.specs.TypeSetText.{parted_after, powers, held, members, part_of, masks_text, set_or_nothing}
 use Rattle.meta_table_text.specs.ConstraintText.{type_numbered, rust_name_or_nothing, type_text, constraint_text, quoted, quoted_all}
 use Rattle.meta_table_text.specs.OpcodeText.{or_nothing, bool_text, hex_byte}
 use Rattle.meta_table_text.specs.GroupItems.{hex_text, binary_text, detail_text, slot_number_text, texts_with_commas, bytes_text}
@@ -80,8 +80,8 @@ capital_other false c is = grind (arith, nat_tests)
 camel_from_endless : (up : Bool) (name : List ℕ) → All IsNameByte name → IsEndless (camel_from up name)
 camel_from_endless up [] all = refl
 camel_from_endless up (c ∷ cs) all =
-    by_test (c == 95) (camel_from_endless true cs (all_behind IsNameByte c cs all))
-    (camel_from_endless false cs (all_behind IsNameByte c cs all))
+    by_test (c == 95) (camel_from_endless true cs (all_after IsNameByte c cs all))
+    (camel_from_endless false cs (all_after IsNameByte c cs all))
   where
     by_test : (b : Bool) → IsEndless (camel_from true cs) → IsEndless (camel_from false cs)
         → IsEndless (cond b (camel_from true cs) (capital_at up c ∷ camel_from false cs))
@@ -110,33 +110,33 @@ camel_at_endless names op all = by_option (at_opcode names op) (λ name at. name
 
 -- ---- texts that are separated
 
-behind_endless : (texts : List (List ℕ)) → All IsEndless texts → IsEndless (flat_map (λ text. codes ", " ++ text) texts)
-behind_endless [] all = refl
-behind_endless (text ∷ texts) all = both_lack 10 (codes ", " ++ text) (flat_map (λ text. codes ", " ++ text) texts)
-    (all_first IsEndless text texts all) (behind_endless texts (all_behind IsEndless text texts all))
+after_endless : (texts : List (List ℕ)) → All IsEndless texts → IsEndless (flat_map (λ text. codes ", " ++ text) texts)
+after_endless [] all = refl
+after_endless (text ∷ texts) all = both_lack 10 (codes ", " ++ text) (flat_map (λ text. codes ", " ++ text) texts)
+    (all_first IsEndless text texts all) (after_endless texts (all_after IsEndless text texts all))
 
 pub names_endless : (names : List (List ℕ)) → All IsEndless names → IsEndless (texts_with_commas names)
 names_endless [] all = refl
 names_endless (name ∷ names) all = both_lack 10 name (flat_map (λ name. codes ", " ++ name) names) (all_first IsEndless name names all)
-    (behind_endless names (all_behind IsEndless name names all))
+    (after_endless names (all_after IsEndless name names all))
 
-hexes_behind : (bytes : List ℕ) → IsEndless (flat_map (λ byte. codes ", " ++ hex_text byte) bytes)
-hexes_behind [] = refl
-hexes_behind (byte ∷ bytes) =
+hexes_after : (bytes : List ℕ) → IsEndless (flat_map (λ byte. codes ", " ++ hex_text byte) bytes)
+hexes_after [] = refl
+hexes_after (byte ∷ bytes) =
     both_lack 10 (codes ", " ++ hex_text byte) (flat_map (λ byte. codes ", " ++ hex_text byte) bytes)
-    (glyphs_endless (byte / 16 ∷ byte % 16 ∷ [])) (hexes_behind bytes)
+    (glyphs_endless (byte / 16 ∷ byte % 16 ∷ [])) (hexes_after bytes)
 
 pub bytes_endless : (bytes : List ℕ) → IsEndless (bytes_text bytes)
 bytes_endless [] = refl
 bytes_endless (byte ∷ bytes) = both_lack 10 (hex_text byte) (flat_map (λ byte. codes ", " ++ hex_text byte) bytes)
-    (glyphs_endless (byte / 16 ∷ byte % 16 ∷ [])) (hexes_behind bytes)
+    (glyphs_endless (byte / 16 ∷ byte % 16 ∷ [])) (hexes_after bytes)
 
-parted_endless : (before : List ℕ) (texts : List (List ℕ)) → IsEndless before → All IsEndless texts → IsEndless (parted_behind before texts)
+parted_endless : (before : List ℕ) (texts : List (List ℕ)) → IsEndless before → All IsEndless texts → IsEndless (parted_after before texts)
 parted_endless before [] free all = refl
 parted_endless before (text ∷ texts) free all =
-    both_lack 10 before (text ++ parted_behind (codes ", ") texts) free
-    (both_lack 10 text (parted_behind (codes ", ") texts) (all_first IsEndless text texts all)
-    (parted_endless (codes ", ") texts refl (all_behind IsEndless text texts all)))
+    both_lack 10 before (text ++ parted_after (codes ", ") texts) free
+    (both_lack 10 text (parted_after (codes ", ") texts) (all_first IsEndless text texts all)
+    (parted_endless (codes ", ") texts refl (all_after IsEndless text texts all)))
 
 -- ---- type sets
 
@@ -177,13 +177,13 @@ found_endless : (is : TypeParts → Bool) (ts : List TypeParts) → list_all (λ
     → IsEndless (rust_name_or_nothing (find is ts))
 found_endless is [] all = refl
 found_endless is (t ∷ ts) all =
-    let (here, behind) = and_parts (lacks 10 (rust_name_of t)) (list_all (λ t. lacks 10 (rust_name_of t)) ts) all in
-    by_test (is t) here (found_endless is ts behind)
+    let (here, after) = and_parts (lacks 10 (rust_name_of t)) (list_all (λ t. lacks 10 (rust_name_of t)) ts) all in
+    by_test (is t) here (found_endless is ts after)
   where
     by_test : (b : Bool) → IsEndless (rust_name_of t) → IsEndless (rust_name_or_nothing (find is ts))
         → IsEndless (rust_name_or_nothing (cond b (Some t) (find is ts)))
-    by_test true here behind = here
-    by_test false here behind = behind
+    by_test true here after = here
+    by_test false here after = after
 
 type_endless : (n : ℕ) → IsEndless (type_text n)
 unfolding type_text type_numbered

@@ -10,8 +10,8 @@ use Rattle.meta_table_text.specs.declared.table_list.TableList.TheVariants.{Enum
 use Rattle.meta_table_text.specs.Lists.{title_of, head_of, list_head, list_end, list_text}
 use Rattle.meta_table_text.specs.OpcodeText.{each_opcode}
 use Rattle.meta_table_reader.specs.Spans.{is_line}
-use Rattle.meta_table_reader.proofs.Lacking.{line_behind}
-use Rattle.meta_table_reader.proofs.ItemsRead.{all_first, all_behind}
+use Rattle.meta_table_reader.proofs.Lacking.{line_after}
+use Rattle.meta_table_reader.proofs.ItemsRead.{all_first, all_after}
 use Rattle.meta_query.specs.Recheck.{mark}
 use Rattle.meta_query.proofs.Unmarked.{IsUnmarked, unmarked_none, unmarked_both, differs, unmarked_line}
 use Rattle.meta_query.proofs.Endless.{IsEndless, number_endless}
@@ -34,7 +34,7 @@ AreOther (line ∷ lines) = IsOther line.level line.parts × AreOther lines
 
 parts_line : (parts : List (List ℕ)) → AreEndless parts → is_line (parts_onto parts []) ≡ true
 parts_line [] free = refl
-parts_line (part ∷ parts) free = line_behind part (parts_onto parts []) free.0 (parts_line parts free.1)
+parts_line (part ∷ parts) free = line_after part (parts_onto parts []) free.0 (parts_line parts free.1)
 
 indented_line : (level : ℕ) (rest : List ℕ) → is_line rest ≡ true → is_line (indented level rest) ≡ true
 indented_line zero rest is = is
@@ -71,7 +71,7 @@ each_unmarked f (suc n) each = unmarked_both (each_opcode f n) (f (suc n)) (each
 pub all_unmarked : {X : Type 0} (f : X → List ℕ) (xs : List X) → All (λ x. IsUnmarked (f x)) xs → IsUnmarked (flat_map f xs)
 all_unmarked f [] all = unmarked_none
 all_unmarked f (x ∷ xs) all = unmarked_both (f x) (flat_map f xs) (all_first (λ x. IsUnmarked (f x)) x xs all)
-    (all_unmarked f xs (all_behind (λ x. IsUnmarked (f x)) x xs all))
+    (all_unmarked f xs (all_after (λ x. IsUnmarked (f x)) x xs all))
 
 pub any_unmarked : {X : Type 0} (f : X → List ℕ) (xs : List X) → ((x : X) → IsUnmarked (f x)) → IsUnmarked (flat_map f xs)
 any_unmarked f xs each = all_unmarked f xs (everywhere xs (λ k x at. each x))
@@ -100,10 +100,10 @@ head_differs list rest = refl
 head_unmarked : (list : TableList) (count : ℕ) → IsUnmarked (list_head list count)
 unfolding list_head
 head_unmarked list count =
-    let behind : List ℕ = decimal count ++ codes "] = [\n" in
-    unmarked_both (title_of list) (head_of list ++ behind) (title_unmarked list)
-    (unmarked_line (head_of list ++ behind) (line_behind (head_of list) behind (head_endless list)
-    (line_behind (decimal count) (codes "] = [\n") (number_endless count) refl)) (head_differs list behind))
+    let after : List ℕ = decimal count ++ codes "] = [\n" in
+    unmarked_both (title_of list) (head_of list ++ after) (title_unmarked list)
+    (unmarked_line (head_of list ++ after) (line_after (head_of list) after (head_endless list)
+    (line_after (decimal count) (codes "] = [\n") (number_endless count) refl)) (head_differs list after))
 
 pub list_unmarked : (list : TableList) (count : ℕ) (lines : List ℕ) → IsUnmarked lines → IsUnmarked (list_text list count lines)
 list_unmarked list count lines are = unmarked_both (list_head list count) (lines ++ list_end) (head_unmarked list count)

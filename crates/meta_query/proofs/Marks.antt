@@ -9,7 +9,7 @@ use Rattle.meta_query.specs.Recheck.{mark, BeginsLine, IsMarkAt, IsCut}
 -- after the place of a mark there is room for it
 pub mark_within : (input : List ℕ) (at : ℕ) → IsMarkAt input at → at + 12 ≤ length input
 mark_within input at h =
-    let room : length (drop at input) ≡ 12 + length h.behind = ap length h.is ∙ length-append mark h.behind in
+    let room : length (drop at input) ≡ 12 + length h.after = ap length h.is ∙ length-append mark h.after in
     omega (arith, room, length-drop at input)
 
 -- no mark stands past the end
@@ -19,12 +19,12 @@ mark_before_end input none at h =
     none at (omega arith) h
 
 -- whether the mark stands where a line begins
-pub mark_behind : (input rest : List ℕ) (at : ℕ) (starts : Bool) → BeginsLine input at → rest ≡ drop at input
-    → (starts ≡ true → rest ≡ mark ++ drop (length mark) rest) → ((behind : List ℕ) → rest ≡ mark ++ behind → starts ≡ true)
+pub mark_after : (input rest : List ℕ) (at : ℕ) (starts : Bool) → BeginsLine input at → rest ≡ drop at input
+    → (starts ≡ true → rest ≡ mark ++ drop (length mark) rest) → ((after : List ℕ) → rest ≡ mark ++ after → starts ≡ true)
     → (IsTrue starts ↔ IsMarkAt input at)
-mark_behind input rest at starts begins rest_is there whole = (
-  λ yes. record { begins = begins; behind = drop (length mark) rest; is = sym rest_is ∙ there yes },
-  λ h. whole h.behind (rest_is ∙ h.is),
+mark_after input rest at starts begins rest_is there whole = (
+  λ yes. record { begins = begins; after = drop (length mark) rest; is = sym rest_is ∙ there yes },
+  λ h. whole h.after (rest_is ∙ h.is),
 )
 
 -- the parts at the first mark

@@ -28,18 +28,18 @@ digits = decimal_by_steps (λ n ds. All IsDigit ds)
 digit_first : (c : ℕ) (rest : List ℕ) → 48 ≤ c → c ≤ 57 → camel_from true (c ∷ rest) ≡ c ∷ camel_from false rest
 digit_first c rest low high = grind (arith, nat_tests)
 
-digit_behind : (c : ℕ) (rest : List ℕ) → 48 ≤ c → c ≤ 57 → camel_from false (c ∷ rest) ≡ c ∷ camel_from false rest
-digit_behind c rest low high = grind (arith, nat_tests)
+digit_after : (c : ℕ) (rest : List ℕ) → 48 ≤ c → c ≤ 57 → camel_from false (c ∷ rest) ≡ c ∷ camel_from false rest
+digit_after c rest low high = grind (arith, nat_tests)
 
-digits_behind : (ds : List ℕ) → All IsDigit ds → camel_from false ds ≡ ds
-digits_behind [] all = refl
-digits_behind (c ∷ ds) all = digit_behind c ds (All-head IsDigit c ds all).0 (All-head IsDigit c ds all).1
-    ∙ ap (λ rest. c ∷ rest) (digits_behind ds (All-tail IsDigit c ds all))
+digits_after : (ds : List ℕ) → All IsDigit ds → camel_from false ds ≡ ds
+digits_after [] all = refl
+digits_after (c ∷ ds) all = digit_after c ds (All-head IsDigit c ds all).0 (All-head IsDigit c ds all).1
+    ∙ ap (λ rest. c ∷ rest) (digits_after ds (All-tail IsDigit c ds all))
 
 digits_first : (ds : List ℕ) → All IsDigit ds → camel_from true ds ≡ ds
 digits_first [] all = refl
 digits_first (c ∷ ds) all = digit_first c ds (All-head IsDigit c ds all).0 (All-head IsDigit c ds all).1
-    ∙ ap (λ rest. c ∷ rest) (digits_behind ds (All-tail IsDigit c ds all))
+    ∙ ap (λ rest. c ∷ rest) (digits_after ds (All-tail IsDigit c ds all))
 
 -- `op_7` is `Op7`
 camel_name : (n : ℕ) → n < 2 ^ 64 → camel_case_of (name_of_number n) ≡ codes "Op" ++ decimal n

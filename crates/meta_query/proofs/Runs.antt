@@ -1,7 +1,7 @@
 -- What a run of a command does.
 use Rattle.std.proofs.Common.{◌≡◌, ℕ, Bool, true, false, List, Option, refl, subst}
 use Rattle.meta_types.specs.declared.fault.DefinitionError.{DefinitionError}
-use Rattle.meta_build.specs.AllDeclared.{Declared, ShowsFirst, AreValid}
+use Rattle.meta_build.specs.AllDeclared.{Declared, HasFirstFault, AreValid}
 use Rattle.meta_run.specs.declared.ending.Ending.{Ending}
 use Rattle.meta_run.specs.Run.{never_rejecting, IsRun, WritesOutput}
 use Rattle.meta_run.proofs.Programs as lemma
@@ -22,7 +22,7 @@ module _ {S K : Type 0} {left : S → Option (List ℕ)} {reads : S → ℕ} {ta
     → ℕ} {d : Declared} {s s' : S} {k k' : K} {words : List (List ℕ)} {ending : Ending}
     (run : IsRun left reads taken writes d s s' k k' (λ (command : Command). AreWordsOf command words) has_input
     (λ command. never_rejecting (IsOutputOf command)) ending) where
-  module _ (no_fault : (e : DefinitionError) → AreValid d → ShowsFirst d e → ⊥) where
+  module _ (no_fault : (e : DefinitionError) → AreValid d → HasFirstFault d e → ⊥) where
     written : (command : Command) → AreWordsOf command words
         → WritesOutput left reads taken writes d s s' k k' (has_input command) (IsOutputOf command) ending
     written command is = lemma.output IsOutputOf run one_command no_fault command is

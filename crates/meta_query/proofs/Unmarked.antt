@@ -1,6 +1,6 @@
 -- Texts of lines of which none is the mark.
 --     IsUnmarked text        such a text
---     is_cut_behind          before the mark and queries it is the text
+--     is_cut_after          before the mark and queries it is the text
 --     is_uncut               alone it is all text
 use Rattle.std.proofs.Common.{◌≡◌, ℕ, zero, suc, ◌+◌, ◌-◌, ◌<◌, ◌≤◌, ◌==◌, cond, not, ◌&&◌, Bool, true, false, inl, inr, ⊎_elim, List, []}
 use Rattle.std.proofs.Common.{◌∷◌, ◌++◌, length, length-append, slice_get, Some, drop, refl, sym, ap, ◌∙◌, subst, append_assoc, append-nil}
@@ -24,9 +24,9 @@ unmarked_none = record { begins = λ more. inl refl; no_mark = λ more at within
 -- ---- one text after another
 
 -- what stands before where a line begins doesn't matter, but for the byte before it
-begins_behind : (a text : List ℕ) (at : ℕ) → BeginsLine (a ++ text) (length a) → BeginsLine text at → BeginsLine (a ++ text) (length a + at)
-begins_behind a text at seam (inl first) = subst (BeginsLine (a ++ text)) (omega (arith, first)) seam
-begins_behind a text at seam (inr (before, next, is)) = inr (length a + before, omega (arith, next), get_right a text before ∙ is)
+begins_after : (a text : List ℕ) (at : ℕ) → BeginsLine (a ++ text) (length a) → BeginsLine text at → BeginsLine (a ++ text) (length a + at)
+begins_after a text at seam (inl first) = subst (BeginsLine (a ++ text)) (omega (arith, first)) seam
+begins_after a text at seam (inr (before, next, is)) = inr (length a + before, omega (arith, next), get_right a text before ∙ is)
 
 begins_ahead : (a text : List ℕ) (at : ℕ) → BeginsLine (a ++ text) (length a + at) → BeginsLine text at
 begins_ahead a text zero h = inl refl
@@ -40,7 +40,7 @@ drop_ahead a text at = sym (drop-drop at (length a) (a ++ text)) ∙ ap (drop at
 
 mark_ahead : (a text : List ℕ) (at : ℕ) → IsMarkAt (a ++ text) (length a + at) → IsMarkAt text at
 mark_ahead a text at h =
-    record { begins = begins_ahead a text at h.begins; behind = h.behind; is = sym (drop_ahead a text at) ∙ h.is }
+    record { begins = begins_ahead a text at h.begins; after = h.after; is = sym (drop_ahead a text at) ∙ h.is }
 
 -- two such texts, one after the other, are such a text
 pub unmarked_both : (a b : List ℕ) → IsUnmarked a → IsUnmarked b → IsUnmarked (a ++ b)
@@ -50,7 +50,7 @@ unmarked_both a b one other = record { begins = begins; no_mark = no_mark }
     begins more =
         subst (λ text. BeginsLine text (length (a ++ b))) (sym (append_assoc a b more))
         (subst (BeginsLine (a ++ (b ++ more))) (sym (length-append a b))
-        (begins_behind a (b ++ more) (length b) (one.begins (b ++ more)) (other.begins more)))
+        (begins_after a (b ++ more) (length b) (one.begins (b ++ more)) (other.begins more)))
 
     no_mark : (more : List ℕ) (at : ℕ) → at < length (a ++ b) → IsMarkAt ((a ++ b) ++ more) at → ⊥
     no_mark more at within h =
@@ -58,12 +58,12 @@ unmarked_both a b one other = record { begins = begins; no_mark = no_mark }
         let long = length-append a b in
         ⊎_elim
         (λ l. one.no_mark (b ++ more) at l there)
-        (λ g. let (k, is) = behind at g in
+        (λ g. let (k, is) = after at g in
         other.no_mark more k (omega (arith, within, long, is)) (mark_ahead a (b ++ more) k (subst (IsMarkAt (a ++ (b ++ more))) is there)))
         (cases_lt at (length a))
       where
-        behind : (at : ℕ) → length a ≤ at → (k : ℕ) × (at ≡ length a + k)
-        behind at g = (at - length a, omega (arith, g))
+        after : (at : ℕ) → length a ≤ at → (k : ℕ) × (at ≡ length a + k)
+        after at g = (at - length a, omega (arith, g))
 
 -- ---- a line that differs from the mark
 
@@ -73,13 +73,13 @@ differs [] other = false
 differs (x ∷ xs) [] = false
 differs (x ∷ xs) (y ∷ ys) = cond (x == y) (differs xs ys) true
 
-differs_still : (xs ys more behind : List ℕ) → differs xs ys ≡ true → xs ++ more ≡ ys ++ behind → ⊥
-differs_still [] ys more behind d e = absurd (cc)
-differs_still (x ∷ xs) [] more behind d e = absurd (cc)
-differs_still (x ∷ xs) (y ∷ ys) more behind d e =
+differs_still : (xs ys more after : List ℕ) → differs xs ys ≡ true → xs ++ more ≡ ys ++ after → ⊥
+differs_still [] ys more after d e = absurd (cc)
+differs_still (x ∷ xs) [] more after d e = absurd (cc)
+differs_still (x ∷ xs) (y ∷ ys) more after d e =
     let first : x ≡ y = cc in
-    let rest : xs ++ more ≡ ys ++ behind = cc in
-    differs_still xs ys more behind (sym (ap (λ b. cond b (differs xs ys) true) (eq-eqb x y first)) ∙ d) rest
+    let rest : xs ++ more ≡ ys ++ after = cc in
+    differs_still xs ys more after (sym (ap (λ b. cond b (differs xs ys) true) (eq-eqb x y first)) ∙ d) rest
 
 -- a line is what lacks LF, and LF
 record LineParts (line : List ℕ) : Type 0 where
@@ -112,11 +112,11 @@ lacks_there stop (c ∷ cs) zero free at =
     no : (b : Bool) → b ≡ true → (not b && lacks stop cs) ≡ true → ⊥
     no true e free = absurd (cc)
     no false e free = absurd (cc)
-lacks_there stop (c ∷ cs) (suc k) free at = lacks_there stop cs k (behind (c == stop) free) at
+lacks_there stop (c ∷ cs) (suc k) free at = lacks_there stop cs k (after (c == stop) free) at
   where
-    behind : (b : Bool) → (not b && lacks stop cs) ≡ true → lacks stop cs ≡ true
-    behind true free = absurd (cc)
-    behind false free = free
+    after : (b : Bool) → (not b && lacks stop cs) ≡ true → lacks stop cs ≡ true
+    after true free = absurd (cc)
+    after false free = free
 
 pub unmarked_line : (line : List ℕ) → is_line line ≡ true → differs line mark ≡ true → IsUnmarked line
 unmarked_line line is other = record { begins = begins; no_mark = no_mark }
@@ -135,7 +135,7 @@ unmarked_line line is other = record { begins = begins; no_mark = no_mark }
 
     at_start : (more : List ℕ) (at : ℕ) → at < length line → IsMarkAt (line ++ more) at → BeginsLine (line ++ more) at → ⊥
     at_start more at within h (inl first) =
-        differs_still line mark more h.behind other (sym (ap (λ n. drop n (line ++ more)) first) ∙ h.is)
+        differs_still line mark more h.after other (sym (ap (λ n. drop n (line ++ more)) first) ∙ h.is)
     at_start more at within h (inr (before, next, end)) =
         let inside : before < length it.front = omega (arith, within, next, count) in
         lacks_there 10 it.front before it.free
@@ -146,11 +146,11 @@ unmarked_line line is other = record { begins = begins; no_mark = no_mark }
 
 -- ---- an input that begins with such a text
 
-pub is_cut_behind : (text queries : List ℕ) → IsUnmarked text → IsCut (text ++ (mark ++ queries)) text queries
-is_cut_behind text queries it =
+pub is_cut_after : (text queries : List ℕ) → IsUnmarked text → IsCut (text ++ (mark ++ queries)) text queries
+is_cut_after text queries it =
     cut_at (text ++ (mark ++ queries)) (length text) text (mark ++ queries) queries
     (record {
-      holds = record { begins = it.begins (mark ++ queries); behind = queries; is = drop-append_seam text (mark ++ queries) };
+      holds = record { begins = it.begins (mark ++ queries); after = queries; is = drop-append_seam text (mark ++ queries) };
       none_before = it.no_mark (mark ++ queries);
     }) (sym (take-append_seam text (mark ++ queries))) (sym (drop-append_seam text (mark ++ queries))) refl
 

@@ -22,8 +22,8 @@ BeginsLine input at = (at ≡ 0) ⊎ ((before : ℕ) × (at ≡ before + 1) × (
 -- a line that is the mark stands at the place
 pub record IsMarkAt (input : List ℕ) (at : ℕ) : Type 0 where
   pub begins : BeginsLine input at
-  pub behind : List ℕ
-  pub is : drop at input ≡ mark ++ behind
+  pub after : List ℕ
+  pub is : drop at input ≡ mark ++ after
 
 -- the text ends before the first mark, and the queries are what stands after it
 pub record IsCutAt (input : List ℕ) (at : ℕ) (text queries : List ℕ) : Type 0 where

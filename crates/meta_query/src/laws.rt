@@ -47,7 +47,7 @@ pub fn one_cut()
 /// No line of the text of well-formed tables, in any version, is the line before the queries. So an input of that text, the line and
 /// queries is cut there, and the text alone has no queries.
 pub fn text_of_tables_stays_whole()
-    ensures behind { (v : Version) (t : WholeTables) (queries : List ℕ) → IsWellFormed t
+    ensures after { (v : Version) (t : WholeTables) (queries : List ℕ) → IsWellFormed t
         → IsCut (table_text v t ++ (mark ++ queries)) (table_text v t) queries }
     ensures alone { (v : Version) (t : WholeTables) → IsWellFormed t → IsCut (table_text v t) (table_text v t) [] }
 {}

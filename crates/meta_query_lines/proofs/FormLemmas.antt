@@ -61,13 +61,13 @@ asked_command (OfQuestion q) = Accept
 asked_command (OfInference q) = Infer
 asked_command (OfSetting name) = Setting
 
-abbrev asked_behind : Asked → List (List ℕ)
-asked_behind (OfQuestion q) = q.name ∷ control_text q.control q.second ∷ types_text q.results ∷ types_text q.values ∷ []
-asked_behind (OfInference q) = q.name ∷ control_text q.control q.second ∷ []
-asked_behind (OfSetting name) = name ∷ []
+abbrev asked_after : Asked → List (List ℕ)
+asked_after (OfQuestion q) = q.name ∷ control_text q.control q.second ∷ types_text q.results ∷ types_text q.values ∷ []
+asked_after (OfInference q) = q.name ∷ control_text q.control q.second ∷ []
+asked_after (OfSetting name) = name ∷ []
 
 -- the pieces of a line that asks
-asked_pieces : (line : List ℕ) (q : Asked) → Asks line q → pieces_of 32 line ≡ command_text (asked_command q) ∷ asked_behind q
+asked_pieces : (line : List ℕ) (q : Asked) → Asks line q → pieces_of 32 line ≡ command_text (asked_command q) ∷ asked_after q
 asked_pieces line (OfQuestion q) h = pieces_of-words line _ _ h.words
 asked_pieces line (OfInference q) h = pieces_of-words line _ _ h.words
 asked_pieces line (OfSetting name) h = pieces_of-words line _ _ h
@@ -78,17 +78,17 @@ one_piece line first pieces (OfQuestion q) h = let e = ap length (sym pieces ∙
 one_piece line first pieces (OfInference q) h = let e = ap length (sym pieces ∙ asked_pieces line (OfInference q) h) in omega (arith, e)
 one_piece line first pieces (OfSetting name) h = let e = ap length (sym pieces ∙ asked_pieces line (OfSetting name) h) in omega (arith, e)
 
-module _ (line first behind : List ℕ) (pieces : pieces_of 32 line ≡ first ∷ pieces_of 32 behind) where
+module _ (line first after : List ℕ) (pieces : pieces_of 32 line ≡ first ∷ pieces_of 32 after) where
   -- the words of the line are its command and what comes after it
   pub words_found : (c : QueryWord) (words : List (List ℕ)) → command_named first ≡ Some c
-      → pieces_of 32 behind ≡ words → pieces_of 32 line ≡ command_text c ∷ words
+      → pieces_of 32 after ≡ words → pieces_of 32 line ≡ command_text c ∷ words
   words_found c words named e = pieces ∙ (λ i. command_is first c named i ∷ e i)
 
   first_is : (q : Asked) → Asks line q → first ≡ command_text (asked_command q)
   first_is q asks = let same = sym pieces ∙ asked_pieces line q asks in cc
 
-  behind_is : (q : Asked) → Asks line q → pieces_of 32 behind ≡ asked_behind q
-  behind_is q asks = let same = sym pieces ∙ asked_pieces line q asks in cc
+  after_is : (q : Asked) → Asks line q → pieces_of 32 after ≡ asked_after q
+  after_is q asks = let same = sym pieces ∙ asked_pieces line q asks in cc
 
   pub not_a_command : command_named first ≡ None → (q : Asked) → Asks line q → ⊥
   not_a_command none q asks = no_command first (asked_command q) none (first_is q asks)
@@ -98,26 +98,26 @@ module _ (line first behind : List ℕ) (pieces : pieces_of 32 line ≡ first �
 
   pub no_accept : command_named first ≡ Some Accept
       → ((name control results values : List ℕ) → 0 < length name
-      → pieces_of 32 behind ≢ name ∷ control ∷ results ∷ values ∷ []) → (q : Asked) → Asks line q → ⊥
+      → pieces_of 32 after ≢ name ∷ control ∷ results ∷ values ∷ []) → (q : Asked) → Asks line q → ⊥
   no_accept named none (OfQuestion q) asks = none q.name (control_text q.control q.second) (types_text q.results)
-      (types_text q.values) (name_has_bytes line q asks) (behind_is (OfQuestion q) asks)
+      (types_text q.values) (name_has_bytes line q asks) (after_is (OfQuestion q) asks)
   no_accept named none (OfInference q) asks = let e = same_command Accept named (OfInference q) asks in absurd (cc)
   no_accept named none (OfSetting name) asks = let e = same_command Accept named (OfSetting name) asks in absurd (cc)
 
   pub no_infer : command_named first ≡ Some Infer
-      → ((name control : List ℕ) → 0 < length name → pieces_of 32 behind ≢ name ∷ control ∷ []) → (q : Asked) → Asks line q → ⊥
+      → ((name control : List ℕ) → 0 < length name → pieces_of 32 after ≢ name ∷ control ∷ []) → (q : Asked) → Asks line q → ⊥
   no_infer named none (OfQuestion q) asks = let e = same_command Infer named (OfQuestion q) asks in absurd (cc)
   no_infer named none (OfInference q) asks = none q.name (control_text q.control q.second) (name_bytes line q asks)
-      (behind_is (OfInference q) asks)
+      (after_is (OfInference q) asks)
   no_infer named none (OfSetting name) asks = let e = same_command Infer named (OfSetting name) asks in absurd (cc)
 
   pub no_setting_word : command_named first ≡ Some Setting
-      → ((name : List ℕ) → 0 < length name → pieces_of 32 behind ≢ name ∷ []) → (q : Asked) → Asks line q → ⊥
+      → ((name : List ℕ) → 0 < length name → pieces_of 32 after ≢ name ∷ []) → (q : Asked) → Asks line q → ⊥
   no_setting_word named none (OfQuestion q) asks = let e = same_command Setting named (OfQuestion q) asks in absurd (cc)
   no_setting_word named none (OfInference q) asks = let e = same_command Setting named (OfInference q) asks in absurd (cc)
   no_setting_word named none (OfSetting name) asks =
       none name (All-head IsWord name [] (All-tail IsWord (codes "setting") (name ∷ []) asks.each)).has_bytes
-      (behind_is (OfSetting name) asks)
+      (after_is (OfSetting name) asks)
 
 -- ---- a line asks for one thing at most
 

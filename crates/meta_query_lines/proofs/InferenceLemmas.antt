@@ -12,7 +12,7 @@ use Rattle.meta_types.specs.TypeParts.{TypeParts, IsType, name_of}
 use Rattle.meta_types.proofs.Numbers.{one_number}
 use Rattle.meta_lines.specs.Words.{IsWord, pieces_of}
 use Rattle.meta_types.specs.TypeNumber.{type_with, IsTypeNumber}
-use Rattle.meta_lines.specs.Control.{control_text, IsBehind}
+use Rattle.meta_lines.specs.Control.{control_text, IsAfter}
 use Rattle.meta_query_lines.specs.Inference.{Inference, IsInference, inference_words, IsResultWord, AreResultWords, more_words}
 use Rattle.meta_query_lines.specs.Inference.{results_text}
 use Rattle.meta_query_lines.specs.Inference.{IsResultsLine}
@@ -29,20 +29,20 @@ name_bytes line q h = (All-head IsWord q.name (control_text q.control q.second �
 
 -- a line whose last word gives no controlling types asks for no inference
 pub no_infer_control : (line name control : List ℕ) → pieces_of 32 line ≡ inference_words name control
-    → ((c d : Option TypeParts) → IfSome c IsType → IfSome d IsType → IsBehind c d → control_text c d ≢ control)
+    → ((c d : Option TypeParts) → IfSome c IsType → IfSome d IsType → IsAfter c d → control_text c d ≢ control)
     → (q : Inference) → IsInference line q → ⊥
 no_infer_control line name control pieces none q h =
     let same : inference_words q.name (control_text q.control q.second) ≡ inference_words name control =
     sym (pieces_of-words line _ _ h.words) ∙ pieces in
     let e : control_text q.control q.second ≡ control = cc in
-    none q.control q.second h.control h.second h.behind e
+    none q.control q.second h.control h.second h.after e
 
 -- the line whose pieces are the words of q asks q
 pub asks_inference : (line name control : List ℕ) (c d : Option ℕ) → IfSome c IsTypeNumber → IfSome d IsTypeNumber
-    → IsBehind (option_map type_with c) (option_map type_with d) → pieces_of 32 line ≡ inference_words name control → 0 < length name
+    → IsAfter (option_map type_with c) (option_map type_with d) → pieces_of 32 line ≡ inference_words name control → 0 < length name
     → control_text (option_map type_with c) (option_map type_with d) ≡ control
     → IsInference line (record { name = name; control = option_map type_with c; second = option_map type_with d })
-asks_inference line name control c d ck dk behind h n ce =
+asks_inference line name control c d ck dk after h n ce =
     let P : List ℕ → Type 0 = λ w. 0 < length w in
     let text = control_text (option_map type_with c) (option_map type_with d) in
     let words : List (List ℕ) = inference_words name text in
@@ -58,7 +58,7 @@ asks_inference line name control c d ck dk behind h n ce =
       };
       control = control_is_type c ck;
       second = control_is_type d dk;
-      behind = behind;
+      after = after;
     }
 
 -- a line asks for one inference at most
@@ -68,7 +68,7 @@ one_inference line q p h k =
     sym (pieces_of-words line _ _ h.words) ∙ pieces_of-words line _ _ k.words in
     let names : q.name ≡ p.name = cc in
     let controls : control_text q.control q.second ≡ control_text p.control p.second = cc in
-    let c = same_controls q.control q.second p.control p.second h.control h.second h.behind k.control k.second k.behind controls in
+    let c = same_controls q.control q.second p.control p.second h.control h.second h.after k.control k.second k.after controls in
     λ i. record { name = names i; control = c.0 i; second = c.1 i }
 
 -- ---- the line of the results
@@ -120,9 +120,9 @@ first_word numbers n w at is = next_word numbers 0 n [] w at (record { count = r
 pub more_text : (first w : List ℕ) (others : List (List ℕ))
     → results_text (first ∷ (others ++ w ∷ [])) ≡ results_text (first ∷ others) ++ 44 ∷ w
 more_text first w others =
-    let behind : more_words (others ++ w ∷ []) ≡ more_words others ++ 44 ∷ w =
+    let after : more_words (others ++ w ∷ []) ≡ more_words others ++ 44 ∷ w =
     flat_map-append (λ (word : List ℕ). 44 ∷ word) others (w ∷ []) ∙ ap (λ t. more_words others ++ 44 ∷ t) (append-nil w) in
-    ap (λ t. codes "results " ++ (first ++ t)) behind
+    ap (λ t. codes "results " ++ (first ++ t)) after
     ∙ ap (λ t. codes "results " ++ t) (sym (append_assoc first (more_words others) (44 ∷ w)))
     ∙ sym (append_assoc (codes "results ") (first ++ more_words others) (44 ∷ w))
 

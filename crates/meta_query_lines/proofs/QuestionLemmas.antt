@@ -7,7 +7,7 @@ use Rattle.std.proofs.lemmas.List.Splits.{join_with_byte-slice_split}
 use Rattle.meta_types.specs.TypeParts.{TypeParts, IsType}
 use Rattle.meta_types.specs.TypeNumber.{type_with, IsTypeNumber}
 use Rattle.meta_lines.specs.Words.{IsWord, pieces_of}
-use Rattle.meta_lines.specs.Control.{IsBehind, control_text}
+use Rattle.meta_lines.specs.Control.{IsAfter, control_text}
 use Rattle.meta_lines.specs.TypeList.{types_text}
 use Rattle.meta_lines.proofs.PieceLemmas.{All-slice_split}
 use Rattle.meta_lines.proofs.WordLemmas.{pieces_of-words, words_from}
@@ -24,7 +24,7 @@ one_question line q p h k =
     let controls : control_text q.control q.second ≡ control_text p.control p.second = cc in
     let results : types_text q.results ≡ types_text p.results = cc in
     let values : types_text q.values ≡ types_text p.values = cc in
-    let c = same_controls q.control q.second p.control p.second h.control h.second h.behind k.control k.second k.behind controls in
+    let c = same_controls q.control q.second p.control p.second h.control h.second h.after k.control k.second k.after controls in
     let r = same_types q.results p.results h.results k.results results in
     let v = same_types q.values p.values h.values k.values values in
     λ i. record { name = names i; control = c.0 i; second = c.1 i; results = r i; values = v i }
@@ -34,8 +34,8 @@ one_question line q p h k =
 -- the name in it has bytes
 pub name_has_bytes : (line : List ℕ) (q : Question) → IsQuestion line q → 0 < length q.name
 name_has_bytes line q h =
-    let behind : List (List ℕ) = control_text q.control q.second ∷ types_text q.results ∷ types_text q.values ∷ [] in
-    (All-head IsWord q.name behind (All-tail IsWord (codes "accept") (q.name ∷ behind) h.words.each)).has_bytes
+    let after : List (List ℕ) = control_text q.control q.second ∷ types_text q.results ∷ types_text q.values ∷ [] in
+    (All-head IsWord q.name after (All-tail IsWord (codes "accept") (q.name ∷ after) h.words.each)).has_bytes
 
 -- where a line asks, its pieces are the words of the question
 module _ (line name control results values : List ℕ) (pieces : pieces_of 32 line
@@ -43,8 +43,8 @@ module _ (line name control results values : List ℕ) (pieces : pieces_of 32 li
   same_words : question_words_of q ≡ codes "accept" ∷ name ∷ control ∷ results ∷ values ∷ []
   same_words = sym (pieces_of-words line _ _ h.words) ∙ pieces
 
-  pub no_control : ((c d : Option TypeParts) → IfSome c IsType → IfSome d IsType → IsBehind c d → control_text c d ≢ control) → ⊥
-  no_control none = let e = same_words in none q.control q.second h.control h.second h.behind (cc)
+  pub no_control : ((c d : Option TypeParts) → IfSome c IsType → IfSome d IsType → IsAfter c d → control_text c d ≢ control) → ⊥
+  no_control none = let e = same_words in none q.control q.second h.control h.second h.after (cc)
 
   pub no_results : ((ts : List TypeParts) → All IsType ts → types_text ts ≢ results) → ⊥
   no_results none = let e = same_words in none q.results h.results (cc)
@@ -54,7 +54,7 @@ module _ (line name control results values : List ℕ) (pieces : pieces_of 32 li
 
 -- the line whose pieces are the words of q asks q
 pub asks : (line name control results values : List ℕ) (c d : Option ℕ) (rs vs : List ℕ) → IfSome c IsTypeNumber
-    → IfSome d IsTypeNumber → IsBehind (option_map type_with c) (option_map type_with d) → All IsTypeNumber rs
+    → IfSome d IsTypeNumber → IsAfter (option_map type_with c) (option_map type_with d) → All IsTypeNumber rs
     → All IsTypeNumber vs → pieces_of 32 line ≡ codes "accept" ∷ name ∷ control ∷ results ∷ values ∷ [] → 0 < length name
     → control_text (option_map type_with c) (option_map type_with d) ≡ control
     → types_text (map type_with rs) ≡ results → types_text (map type_with vs) ≡ values
@@ -65,7 +65,7 @@ pub asks : (line name control results values : List ℕ) (c d : Option ℕ) (rs 
       results = map type_with rs;
       values = map type_with vs;
     })
-asks line name control results values c d rs vs ck dk behind rk vk h n ce re ve =
+asks line name control results values c d rs vs ck dk after rk vk h n ce re ve =
     let P : List ℕ → Type 0 = λ w. 0 < length w in
     let cw = control_text (option_map type_with c) (option_map type_with d) in
     let rw' = types_text (map type_with rs) in
@@ -86,7 +86,7 @@ asks line name control results values c d rs vs ck dk behind rk vk h n ce re ve 
       };
       control = control_is_type c ck;
       second = control_is_type d dk;
-      behind = behind;
+      after = after;
       results = all_are_types rs rk;
       values = all_are_types vs vk;
     }

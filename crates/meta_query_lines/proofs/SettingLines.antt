@@ -69,15 +69,15 @@ module _ (g : GroupDeclaration) (t : GroupContents) (made : AreTablesOfGroup (bu
           (slice_get-map setting_line layout.settings e ∙ ap (option_map setting_line) s_at) ∙ ap (λ l. Some l) line
 
       of_preset : (k : ℕ) → e ≡ length layout.settings + k → slice_get (entry_lines layout) e ≡ Some (line_in t d)
-      of_preset k behind =
+      of_preset k after =
           let within = slice_get_within t.descriptors e d at in
           let count = made.count in
           let none : BuiltPreset = record { name = []; description = []; booleans = [] } in
           let p = get_or layout.presets k none in
-          let p_at : slice_get layout.presets k ≡ Some p = slice_get-get_or layout.presets k none (omega (arith, within, count, behind)) in
-          let is = (made.entries e d at).preset k p behind p_at in
+          let p_at : slice_get layout.presets k ≡ Some p = slice_get-get_or layout.presets k none (omega (arith, within, count, after)) in
+          let is = (made.entries e d at).preset k p after p_at in
           let line : preset_line layout p ≡ line_in t d =
           ap (λ names. line_of_facts p.name (PresetFacts names)) (sym (same_enabled_names g t made k p p_at)) ∙ ap (line_in t) (sym is) in
-          ap (slice_get (entry_lines layout)) (behind ∙ ap (λ n. n + k) (sym (length-map layout.settings setting_line)))
+          ap (slice_get (entry_lines layout)) (after ∙ ap (λ n. n + k) (sym (length-map layout.settings setting_line)))
           ∙ get_right (map setting_line layout.settings) (map (preset_line layout) layout.presets) k
           ∙ slice_get-map (preset_line layout) layout.presets k ∙ ap (option_map (preset_line layout)) p_at ∙ ap (λ l. Some l) line

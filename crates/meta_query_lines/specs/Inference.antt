@@ -2,7 +2,7 @@
 use Rattle.std.specs.Prelude.{◌≡◌, ◌≢◌, ◌⊎◌, ℕ, List, [], ◌∷◌, ◌++◌, length, slice_get, flat_map, Option, Some, IfSome, codes}
 use Rattle.meta_types.specs.TypeParts.{TypeParts, IsType, number_of, name_of}
 use Rattle.meta_lines.specs.Words.{AreWords}
-use Rattle.meta_lines.specs.Control.{control_text, IsBehind}
+use Rattle.meta_lines.specs.Control.{control_text, IsAfter}
 
 -- which results the instruction of this name infers of the types of its control and of its second control
 pub record Inference : Type 0 where
@@ -19,7 +19,7 @@ pub record IsInference (line : List ℕ) (q : Inference) : Type 0 where
   pub words : AreWords line (inference_words q.name (control_text q.control q.second))
   pub control : IfSome q.control IsType
   pub second : IfSome q.second IsType
-  pub behind : IsBehind q.control q.second
+  pub after : IsAfter q.control q.second
 
 -- the word for the number of a result: the name of the type that has it, and `?` where none has, as 0
 abbrev pub IsResultWord : ℕ → List ℕ → Type 0

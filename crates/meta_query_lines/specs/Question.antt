@@ -3,7 +3,7 @@ use Rattle.std.specs.Prelude.{ℕ, List, [], ◌∷◌, All, IfSome, codes}
 use Rattle.meta_types.specs.TypeParts.{IsType}
 use Rattle.meta_gen.specs.Question.{Question}
 use Rattle.meta_lines.specs.Words.{AreWords}
-use Rattle.meta_lines.specs.Control.{control_text, IsBehind}
+use Rattle.meta_lines.specs.Control.{control_text, IsAfter}
 use Rattle.meta_lines.specs.TypeList.{types_text}
 
 -- the words of the line that asks: `accept NAME CONTROL RESULTS VALUES`, where CONTROL gives both controlling types
@@ -18,6 +18,6 @@ pub record IsQuestion (line : List ℕ) (q : Question) : Type 0 where
   pub words : AreWords line (question_words_of q)
   pub control : IfSome q.control IsType
   pub second : IfSome q.second IsType
-  pub behind : IsBehind q.control q.second
+  pub after : IsAfter q.control q.second
   pub results : All IsType q.results
   pub values : All IsType q.values

@@ -48,13 +48,13 @@ fn command_of(word: &[u8]) -> Option<QueryWord>
     }
 }
 
-fn accept_words(behind: &[u8]) -> Option<AcceptWords<'_>>
-    ensures words { IfSome result (λ w. pieces_of 32 behind.now ≡ w.name.now ∷ w.control.now ∷ w.results.now ∷ w.values.now ∷ []) }
+fn accept_words(after: &[u8]) -> Option<AcceptWords<'_>>
+    ensures words { IfSome result (λ w. pieces_of 32 after.now ≡ w.name.now ∷ w.control.now ∷ w.results.now ∷ w.values.now ∷ []) }
     ensures named { IfSome result (λ w. 0 < length w.name.now) }
     ensures none { IfNone result ((name control results values : List ℕ) → 0 < length name
-        → pieces_of 32 behind.now ≢ name ∷ control ∷ results ∷ values ∷ []) }
+        → pieces_of 32 after.now ≢ name ∷ control ∷ results ∷ values ∷ []) }
 {
-    let mut words = Pieces::new(behind, b' ');
+    let mut words = Pieces::new(after, b' ');
     let name = words.next()?;
     if name.is_empty() {
         return None;
@@ -73,12 +73,12 @@ fn accept_words(behind: &[u8]) -> Option<AcceptWords<'_>>
     })
 }
 
-fn infer_words(behind: &[u8]) -> Option<InferWords<'_>>
-    ensures words { IfSome result (λ w. pieces_of 32 behind.now ≡ w.name.now ∷ w.control.now ∷ []) }
+fn infer_words(after: &[u8]) -> Option<InferWords<'_>>
+    ensures words { IfSome result (λ w. pieces_of 32 after.now ≡ w.name.now ∷ w.control.now ∷ []) }
     ensures named { IfSome result (λ w. 0 < length w.name.now) }
-    ensures none { IfNone result ((name control : List ℕ) → 0 < length name → pieces_of 32 behind.now ≢ name ∷ control ∷ []) }
+    ensures none { IfNone result ((name control : List ℕ) → 0 < length name → pieces_of 32 after.now ≢ name ∷ control ∷ []) }
 {
-    let mut words = Pieces::new(behind, b' ');
+    let mut words = Pieces::new(after, b' ');
     let name = words.next()?;
     if name.is_empty() {
         return None;
@@ -90,12 +90,12 @@ fn infer_words(behind: &[u8]) -> Option<InferWords<'_>>
     Some(InferWords { name, control })
 }
 
-fn setting_word(behind: &[u8]) -> Option<&[u8]>
-    ensures words { IfSome result (λ name. pieces_of 32 behind.now ≡ name.now ∷ []) }
+fn setting_word(after: &[u8]) -> Option<&[u8]>
+    ensures words { IfSome result (λ name. pieces_of 32 after.now ≡ name.now ∷ []) }
     ensures named { IfSome result (λ name. 0 < length name.now) }
-    ensures none { IfNone result ((name : List ℕ) → 0 < length name → pieces_of 32 behind.now ≢ name ∷ []) }
+    ensures none { IfNone result ((name : List ℕ) → 0 < length name → pieces_of 32 after.now ≢ name ∷ []) }
 {
-    let mut words = Pieces::new(behind, b' ');
+    let mut words = Pieces::new(after, b' ');
     let name = words.next()?;
     if name.is_empty() {
         return None;
@@ -113,19 +113,19 @@ pub(crate) fn form_of(line: &[u8]) -> Option<QueryForm<'_>>
     ensures none { IfNone result ((q : Asked) → ¬ Asks line.now q) }
 {
     let (first, rest) = cut(line, b' ');
-    let behind = rest?;
+    let after = rest?;
     let command = command_of(first)?;
     match command {
         QueryWord::Accept => {
-            let accept = accept_words(behind)?;
+            let accept = accept_words(after)?;
             Some(QueryForm::Accept(accept))
         }
         QueryWord::Infer => {
-            let infer = infer_words(behind)?;
+            let infer = infer_words(after)?;
             Some(QueryForm::Infer(infer))
         }
         QueryWord::Setting => {
-            let setting = setting_word(behind)?;
+            let setting = setting_word(after)?;
             Some(QueryForm::Setting(setting))
         }
     }

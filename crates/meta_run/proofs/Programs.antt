@@ -3,7 +3,7 @@ use Rattle.std.proofs.Common.{◌≡◌, ◌≢◌, ◌≤◌, inl, inr, ℕ, Bo
 use Rattle.std.specs.Prelude.{⊤}
 use Rattle.meta_types.specs.declared.fault.DefinitionError.{DefinitionError}
 use Rattle.meta_text.specs.Outside.{Rose, longest_input, GaveMore, GaveAtMost}
-use Rattle.meta_build.specs.AllDeclared.{Declared, ShowsFirst, AreValid}
+use Rattle.meta_build.specs.AllDeclared.{Declared, HasFirstFault, AreValid}
 use Rattle.meta_run.specs.Ending.{WritesNothing, written_as}
 use Rattle.meta_run.specs.declared.ending.Ending.{Ending}
 use Rattle.meta_run.specs.declared.ending.Ending.TheVariants.{Done, Refused, Usage, ReadFault, WriteFault, OutOfMemory, TooLong, Rejected}
@@ -107,7 +107,7 @@ module _ {S K W : Type 0} {left : S → Option (List ℕ)} {reads : S → ℕ} {
 
   -- ---- where nothing fails: the words mean at most one thing, and valid declarations have no fault
 
-  module _ (one : (v w : W) → Means v → Means w → v ≡ w) (no_fault : (e : DefinitionError) → AreValid d → ShowsFirst d e
+  module _ (one : (v w : W) → Means v → Means w → v ≡ w) (no_fault : (e : DefinitionError) → AreValid d → HasFirstFault d e
       → ⊥) (w : W) (means : Means w) where
     own : DidBy w ending
     own = known (λ v other ran. subst (λ x. DidBy x ending) (one v w other means) ran.did) (λ none is source sink. absurd (none w means))
@@ -115,7 +115,7 @@ module _ {S K W : Type 0} {left : S → Option (List ℕ)} {reads : S → ℕ} {
     pub answers : AnswersInput left reads taken writes d s s' k k' (has_input w) (texts w) ending
     answers = lemma.headline left reads taken writes d s s' k k' (texts w) (has_input w) no_fault ending own
 
-    pub refuses : ((e f : DefinitionError) → ShowsFirst d e → ShowsFirst d f → e ≡ f)
+    pub refuses : ((e f : DefinitionError) → HasFirstFault d e → HasFirstFault d f → e ≡ f)
         → RefusesDeclarations left reads taken writes d s s' k k' ending
     refuses one_fault = lemma.refuses left reads taken writes d s s' k k' (texts w) (has_input w) one_fault no_fault ending own
 
@@ -124,8 +124,8 @@ module _ {S K W : Type 0} {left : S → Option (List ℕ)} {reads : S → ℕ} {
 
   -- ---- all of it
 
-  pub runs : ((v w : W) → Means v → Means w → v ≡ w) → ((e : DefinitionError) → AreValid d → ShowsFirst d e → ⊥)
-      → ((e f : DefinitionError) → ShowsFirst d e → ShowsFirst d f → e ≡ f)
+  pub runs : ((v w : W) → Means v → Means w → v ≡ w) → ((e : DefinitionError) → AreValid d → HasFirstFault d e → ⊥)
+      → ((e f : DefinitionError) → HasFirstFault d e → HasFirstFault d f → e ≡ f)
       → Runs left reads taken writes d s s' k k' Means has_input texts ending
   runs one no_fault one_fault = record {
     run = run;
@@ -158,7 +158,7 @@ module _ {S K W : Type 0} {left : S → Option (List ℕ)} {reads : S → ℕ} {
     → ℕ} {d : Declared} {s s' : S} {k k' : K} {Means : W → Type 0} {has_input : W → Bool}
     (outputs : W → Outputs) {ending : Ending} (run : IsRun left reads taken writes d s s' k k' Means has_input
     (λ w. never_rejecting (outputs w)) ending) (one : (v w : W) → Means v → Means w → v ≡ w) (no_fault : (e : DefinitionError) → AreValid d
-    → ShowsFirst d e → ⊥) (w : W) (means : Means w) where
+    → HasFirstFault d e → ⊥) (w : W) (means : Means w) where
   pub output : WritesOutput left reads taken writes d s s' k k' (has_input w) (outputs w) ending
   output valid memory input before given taken_is no_write =
       by (answers run one no_fault w means valid memory input before given taken_is no_write)

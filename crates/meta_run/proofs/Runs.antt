@@ -5,7 +5,7 @@ use Rattle.std.proofs.lemmas.List.{append-nil}
 use Rattle.meta_types.specs.declared.fault.DefinitionError.{DefinitionError}
 use Rattle.meta_types.specs.declared.fault.DefinitionError.TheVariants as fault_of
 use Rattle.meta_text.specs.Outside.{Rose, with_front, with_more, NothingLeft, longest_input, GaveMore, GaveAtMost}
-use Rattle.meta_build.specs.AllDeclared.{Declared, ShowsFirst, AreValid}
+use Rattle.meta_build.specs.AllDeclared.{Declared, HasFirstFault, AreValid}
 use Rattle.meta_run.specs.declared.ending.Ending.{Ending}
 use Rattle.meta_run.specs.declared.ending.Ending.TheVariants.{Done, Refused, Usage, ReadFault, WriteFault, OutOfMemory, TooLong, Rejected}
 use Rattle.meta_run.specs.Run.{refusal, Texts, IsInput, IsAnsweredWhole, Refuses, Did, Ran, IsGiven, AnswersInput, RefusesDeclarations}
@@ -65,7 +65,7 @@ module _ {S K : Type 0} (left : S → Option (List ℕ)) (reads : S → ℕ) (ta
   not_too_long true input g e more = gave_within input (left s') g.1 (subst (λ l. GaveMore longest_input l (left s')) g.0 more)
   not_too_long false input g e more = absurd (cc)
 
-  pub headline : (has_input : Bool) → ((e : DefinitionError) → AreValid d → ShowsFirst d e → ⊥) → (ending : Ending)
+  pub headline : (has_input : Bool) → ((e : DefinitionError) → AreValid d → HasFirstFault d e → ⊥) → (ending : Ending)
       → Did left reads taken writes d s s' k k' has_input texts ending
       → AnswersInput left reads taken writes d s s' k k' has_input texts ending
   headline has_input no_fault Done did valid memory input before g taken_is no_write =
@@ -81,8 +81,8 @@ module _ {S K : Type 0} (left : S → Option (List ℕ)) (reads : S → ℕ) (ta
   headline has_input no_fault TooLong did valid memory input before g taken_is no_write =
       absurd (not_too_long has_input input g did.0 did.2)
 
-  pub refuses : (has_input : Bool) → ((e f : DefinitionError) → ShowsFirst d e → ShowsFirst d f → e ≡ f)
-      → ((e : DefinitionError) → AreValid d → ShowsFirst d e → ⊥) → (ending : Ending)
+  pub refuses : (has_input : Bool) → ((e f : DefinitionError) → HasFirstFault d e → HasFirstFault d f → e ≡ f)
+      → ((e : DefinitionError) → AreValid d → HasFirstFault d e → ⊥) → (ending : Ending)
       → Did left reads taken writes d s s' k k' has_input texts ending → RefusesDeclarations left reads taken writes d s s' k k' ending
   refuses has_input one_fault no_fault Done did e first memory before taken_is no_write = absurd (no_fault e did.valid first)
   refuses has_input one_fault no_fault Rejected did e first memory before taken_is no_write = absurd (no_fault e did.valid first)
@@ -98,7 +98,7 @@ module _ {S K : Type 0} (left : S → Option (List ℕ)) (reads : S → ℕ) (ta
   refuses has_input one_fault no_fault OutOfMemory did e first memory before taken_is no_write = absurd (memory refl)
   refuses has_input one_fault no_fault TooLong did e first memory before taken_is no_write = absurd (no_fault e did.1 first)
 
-  pub complete : (has_input : Bool) → ((e : DefinitionError) → AreValid d → ShowsFirst d e → ⊥) → (ending : Ending)
+  pub complete : (has_input : Bool) → ((e : DefinitionError) → AreValid d → HasFirstFault d e → ⊥) → (ending : Ending)
       → Did left reads taken writes d s s' k k' has_input texts ending → Completes left reads taken writes d s s' k k' has_input ending
   complete has_input no_fault Done did valid no_read no_write = inl (false, refl)
   complete has_input no_fault Rejected did valid no_read no_write = inl (true, refl)
@@ -117,7 +117,7 @@ module _ {S K : Type 0} (left : S → Option (List ℕ)) (reads : S → ℕ) (ta
 -- the refusal of declarations is a run that read nothing
 module _ {S K : Type 0} (left : S → Option (List ℕ)) (reads : S → ℕ) (taken : K → Option (List ℕ))
     (writes : K → ℕ) (d : Declared) (s : S) (k k' : K) (has_input : Bool) (texts : Texts) (fault : DefinitionError) (first : fault
-    ≢ fault_of.OutOfMemory → ShowsFirst d fault) where
+    ≢ fault_of.OutOfMemory → HasFirstFault d fault) where
   pub refused : (ending : Ending) → Refuses taken writes fault k k' ending → Did left reads taken writes d s s k k' has_input texts ending
   refused Done h = absurd h
   refused Rejected h = absurd h

@@ -9,7 +9,7 @@ use Rattle.meta_types.specs.Fault.{line_of}
 use Rattle.meta_types.specs.declared.fault.DefinitionError.{DefinitionError}
 use Rattle.meta_types.specs.declared.fault.DefinitionError.TheVariants as fault_of
 use Rattle.meta_text.specs.Outside.{Rose, with_front, with_more, NothingLeft, longest_input, GaveMore, GaveAtMost, TookPart}
-use Rattle.meta_build.specs.AllDeclared.{Declared, ShowsFirst, AreValid}
+use Rattle.meta_build.specs.AllDeclared.{Declared, HasFirstFault, AreValid}
 use Rattle.meta_run.specs.declared.ending.Ending.{Ending}
 use Rattle.meta_run.specs.declared.ending.Ending.TheVariants.{Done, Refused, Usage, ReadFault, WriteFault, OutOfMemory, TooLong, Rejected}
 use Rattle.meta_run.specs.Ending.{WritesNothing, written_as}
@@ -40,13 +40,13 @@ NeverRises count = (before after : _) → Rose (count before) (count after) → 
 -- the declarations are refused by their first fault, and the sink took the line that says so
 pub record IsRefusedWhole (d : Declared) (taken taken' : Option (List ℕ)) : Type 0 where
   pub fault : DefinitionError
-  pub first : ShowsFirst d fault
+  pub first : HasFirstFault d fault
   pub took : taken' ≡ with_more taken (refusal fault)
 
 -- the sink took a part of that line, and not all
 pub record IsRefusedInPart (d : Declared) (taken taken' : Option (List ℕ)) : Type 0 where
   pub fault : DefinitionError
-  pub first : ShowsFirst d fault
+  pub first : HasFirstFault d fault
   pub took : TookPart (refusal fault) taken taken'
 
 -- what the refusal of declarations by a fault wrote, by how it ended
@@ -162,7 +162,7 @@ module _ {S K : Type 0} (left : S → Option (List ℕ)) (reads : S → ℕ) (ta
   -- the line that says so, by the first fault.
   abbrev pub RefusesDeclarations : Ending → Type 0
   RefusesDeclarations ending =
-      (e : DefinitionError) → ShowsFirst d e → ending ≢ OutOfMemory → (before : List ℕ) → taken k ≡ Some before
+      (e : DefinitionError) → HasFirstFault d e → ending ≢ OutOfMemory → (before : List ℕ) → taken k ≡ Some before
       → (Rose (writes k) (writes k') → ⊥)
       → (ending ≡ Refused) × (taken k' ≡ Some (before ++ refusal e))
 

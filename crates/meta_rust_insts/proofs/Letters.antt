@@ -30,9 +30,9 @@ none_before : (later : Bool) (c : ℕ) → 128 ≤ c → mark_before later c ≡
 none_before true c h = grind (arith, nat_tests)
 none_before false c h = refl
 
-none_behind : (later : Bool) (c : ℕ) (rest : List ℕ) → 128 ≤ c → snake_from later rest ≡ snake_from (later || is_ascii_uppercase c) rest
-none_behind true c rest h = refl
-none_behind false c rest h = grind (arith, nat_tests)
+none_after : (later : Bool) (c : ℕ) (rest : List ℕ) → 128 ≤ c → snake_from later rest ≡ snake_from (later || is_ascii_uppercase c) rest
+none_after true c rest h = refl
+none_after false c rest h = grind (arith, nat_tests)
 
 small_high : (c : ℕ) → 128 ≤ c → to_ascii_lowercase c ≡ c
 small_high c h = grind (arith, nat_tests)
@@ -49,7 +49,7 @@ snake_from-char later c rest = ⊎_elim ascii past (cases_lt c 128)
     past : 128 ≤ c → snake_from later (encode c ++ rest)
         ≡ mark_before later c ++ (encode (to_ascii_lowercase c) ++ snake_from (later || is_ascii_uppercase c) rest)
     past l = rw (none_before later c l, small_high c l)
-        (snake_from-high c later rest l ∙ ap (λ z. encode c ++ z) (none_behind later c rest l))
+        (snake_from-high c later rest l ∙ ap (λ z. encode c ++ z) (none_after later c rest l))
 
 -- a character that is written as a small letter after its mark
 pub snake_more : (old new mark : List ℕ) (later : Bool) (c letter : ℕ) (rest : List ℕ)

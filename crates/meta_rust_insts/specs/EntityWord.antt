@@ -11,13 +11,13 @@ abbrev pub begins_with_mark : List ℕ → Bool
 begins_with_mark bytes = same_text (take 2 bytes) (codes "::")
 
 -- what stands after the last `::` of these bytes, and the other part if they have no `::`
-abbrev pub behind_last : List ℕ → List ℕ → List ℕ
-behind_last other [] = other
-behind_last other (c ∷ cs) = behind_last (if begins_with_mark (c ∷ cs) then drop 2 (c ∷ cs) else other) cs
+abbrev pub after_last : List ℕ → List ℕ → List ℕ
+after_last other [] = other
+after_last other (c ∷ cs) = after_last (if begins_with_mark (c ∷ cs) then drop 2 (c ∷ cs) else other) cs
 
 -- the last part of a path, which is the whole path if it has no `::`
 abbrev pub last_part : List ℕ → List ℕ
-last_part path = behind_last path path
+last_part path = after_last path path
 
 -- what stands before a letter: a `_` before a capital, if a capital came before it
 abbrev pub mark_before : Bool → ℕ → List ℕ

@@ -21,7 +21,7 @@ use meta_types::Place;
 use meta_typevar::TypeVars;
 use std::alloc::{AllocError, Global};
 
-fn behind(alloc: Global, name: &str, letters: &str) -> Result<String, AllocError>
+fn after(alloc: Global, name: &str, letters: &str) -> Result<String, AllocError>
     ensures { IfOk result (λ text. string_bytes text ≡ name.now ++ letters.now) }
 {
     format!(in alloc; "{name}{letters}")
@@ -33,11 +33,11 @@ fn meets_block(alloc: Global, names: &Names, name: &str) -> Result<bool, AllocEr
     if names.meets(alloc, name)? {
         return Ok(true);
     }
-    let label = behind(alloc, name, "_label")?;
+    let label = after(alloc, name, "_label")?;
     if names.meets(alloc, label.as_str())? {
         return Ok(true);
     }
-    let args = behind(alloc, name, "_args")?;
+    let args = after(alloc, name, "_args")?;
     names.meets(alloc, args.as_str())
 }
 
@@ -54,7 +54,7 @@ fn meets_input(alloc: Global, names: &Names, input: &Operand) -> Result<bool, Al
 }
 
 /// Adds the name with these letters after it, as it is and after `r#`.
-fn add_forms_behind(
+fn add_forms_after(
     alloc: Global,
     names: &mut Names,
     name: &str,
@@ -62,15 +62,15 @@ fn add_forms_behind(
 ) -> Result<(), AllocError>
     ensures { OnOk result ((text : List ℕ) → known names.new text ≡ (has_form (name.now ++ letters.now) text || known names.old text)) }
 {
-    let text = behind(alloc, name, letters)?;
+    let text = after(alloc, name, letters)?;
     names.add_forms(alloc, text.as_str())
 }
 
 fn add_block(alloc: Global, names: &mut Names, name: &str) -> Result<(), AllocError>
     ensures { OnOk result ((text : List ℕ) → known names.new text ≡ (is_form (block_names name.now) text || known names.old text)) }
 {
-    add_forms_behind(alloc, names, name, "_args")?;
-    add_forms_behind(alloc, names, name, "_label")?;
+    add_forms_after(alloc, names, name, "_args")?;
+    add_forms_after(alloc, names, name, "_label")?;
     names.add_forms(alloc, name)
 }
 

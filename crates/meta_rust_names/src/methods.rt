@@ -67,7 +67,7 @@ pub(crate) fn instruction_methods(
     Ok(names)
 }
 
-fn add_behind(alloc: Global, names: &mut Names, name: &str, letters: &str) -> Result<(), AllocError>
+fn add_after(alloc: Global, names: &mut Names, name: &str, letters: &str) -> Result<(), AllocError>
     ensures { OnOk result ((text : List ℕ) → known names.new text
         ≡ (is_among ((name.now ++ letters.now) ∷ []) text || known names.old text)) }
 {
@@ -78,9 +78,9 @@ fn add_behind(alloc: Global, names: &mut Names, name: &str, letters: &str) -> Re
 fn add_three(alloc: Global, names: &mut Names, name: &str) -> Result<(), AllocError>
     ensures { OnOk result ((text : List ℕ) → known names.new text ≡ (is_among (three_names name.now) text || known names.old text)) }
 {
-    add_behind(alloc, names, name, "_imm")?;
-    add_behind(alloc, names, name, "_imm_u")?;
-    add_behind(alloc, names, name, "_imm_s")
+    add_after(alloc, names, name, "_imm")?;
+    add_after(alloc, names, name, "_imm_u")?;
+    add_after(alloc, names, name, "_imm_s")
 }
 
 fn add_imm_methods(

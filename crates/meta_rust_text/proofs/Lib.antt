@@ -12,6 +12,6 @@ pub mod BuiltOperands
 -- templates
 mod Templates
 mod After
-mod Behind
+mod After
 mod TypeTexts
 mod Sizes

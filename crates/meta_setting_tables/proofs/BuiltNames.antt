@@ -178,11 +178,11 @@ names_in_bits start k (s ∷ settings) = ap (λ w. s.name ∷ w) (names_in_bits 
 names_after : (earlier : List BuiltPreset) (presets : List PresetDeclaration)
     → map (λ (p : BuiltPreset). p.name) (presets_after earlier presets) ≡ map (λ (p : BuiltPreset). p.name) earlier
     ++ map (λ (p : PresetDeclaration). p.name) presets
-names_after earlier [] = sym (nothing_behind (map (λ (p : BuiltPreset). p.name) earlier))
+names_after earlier [] = sym (nothing_after (map (λ (p : BuiltPreset). p.name) earlier))
   where
-    nothing_behind : (xs : List (List ℕ)) → xs ++ [] ≡ xs
-    nothing_behind [] = refl
-    nothing_behind (x ∷ xs) = ap (λ w. x ∷ w) (nothing_behind xs)
+    nothing_after : (xs : List (List ℕ)) → xs ++ [] ≡ xs
+    nothing_after [] = refl
+    nothing_after (x ∷ xs) = ap (λ w. x ∷ w) (nothing_after xs)
 names_after earlier (p ∷ presets) =
     names_after (earlier ++ built_preset earlier p ∷ []) presets
     ∙ ap (λ w. w ++ map (λ (p : PresetDeclaration). p.name) presets)

@@ -35,17 +35,17 @@ module _ (entries : List Descriptor) (shape : Shape) (is : IsShapeOf entries sha
   alone_counted byte m = (alone_as is.own_bytes is.booleans byte m, alone_as (sym is.own_bytes) (sym is.booleans) byte m)
 
 -- a bit after the bytes of the enums and numbers is a boolean's if its number is below their count
-pub boolean_bit : (own booleans byte bit behind : ℕ) → byte ≡ own + behind → bit < 8
-    → (nat_lt (behind * 8 + bit) booleans ≡ true) ↔ IsBooleanBit own booleans byte bit
-boolean_bit own booleans byte bit behind e low = (
-  λ t. let below = (Decides-ltb (behind * 8 + bit) booleans).0 t
+pub boolean_bit : (own booleans byte bit after : ℕ) → byte ≡ own + after → bit < 8
+    → (nat_lt (after * 8 + bit) booleans ≡ true) ↔ IsBooleanBit own booleans byte bit
+boolean_bit own booleans byte bit after e low = (
+  λ t. let below = (Decides-ltb (after * 8 + bit) booleans).0 t
       in record {
-        number = behind * 8 + bit;
+        number = after * 8 + bit;
         within = below;
         place = record { byte_is = omega (arith, e, low); bit_is = omega (arith, low) };
       },
   λ h. let within = h.within in let byte_is = h.place.byte_is in let bit_is = h.place.bit_is
-      in (Decides-ltb (behind * 8 + bit) booleans).1 (omega (arith, e, within, byte_is, bit_is)),
+      in (Decides-ltb (after * 8 + bit) booleans).1 (omega (arith, e, within, byte_is, bit_is)),
 )
 
 -- mask i is that of byte i % size

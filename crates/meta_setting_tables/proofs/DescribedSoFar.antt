@@ -50,7 +50,7 @@ presets_next presets size k p d old new at own more so =
         → slice_get new j ≡ Some (preset_descriptor size j q)
     place j q l at' (inl before) long = ap (λ w. slice_get w j) more ∙ get_left old (d ∷ []) j (omega (arith, before, long))
         ∙ so.described j q before at'
-    place j q l at' (inr behind) long =
+    place j q l at' (inr after) long =
         let here : j ≡ k = omega arith in
         let one : p ≡ q = same_Some p q (sym at ∙ ap (slice_get presets) (sym here) ∙ at') in
         ap (λ w. slice_get w j) more ∙ ap (slice_get (old ++ d ∷ [])) (here ∙ sym long) ∙ get_end old d

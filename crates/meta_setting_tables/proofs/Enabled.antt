@@ -138,14 +138,14 @@ module _ (looked_for : Descriptor → Bool) (is_named : PlacedSetting → Bool) 
       → slice_get ds k ≡ Some d → AreNamedAlike looked_for is_named s d) → length ss ≤ length ds
       → ((k : ℕ) (d : Descriptor) → length ss ≤ k → slice_get ds k ≡ Some d → looked_for d ≡ false)
       → map (λ (d : Descriptor). d.name) (filter looked_for ds) ≡ map (λ (s : PlacedSetting). s.name) (filter is_named ss)
-  same_names [] [] alike few behind = refl
-  same_names [] (d ∷ ds) alike few behind =
-      ap (map (λ (d : Descriptor). d.name)) (cond-false (looked_for d) _ _ (behind 0 d (omega arith) refl))
-      ∙ same_names [] ds (λ k s d at. absurd (cc)) (omega arith) (λ k d past. behind (suc k) d (omega arith))
-  same_names (s ∷ ss) [] alike few behind = absurd (omega (arith, few))
-  same_names (s ∷ ss) (d ∷ ds) alike few behind =
+  same_names [] [] alike few after = refl
+  same_names [] (d ∷ ds) alike few after =
+      ap (map (λ (d : Descriptor). d.name)) (cond-false (looked_for d) _ _ (after 0 d (omega arith) refl))
+      ∙ same_names [] ds (λ k s d at. absurd (cc)) (omega arith) (λ k d past. after (suc k) d (omega arith))
+  same_names (s ∷ ss) [] alike few after = absurd (omega (arith, few))
+  same_names (s ∷ ss) (d ∷ ds) alike few after =
       let h = alike 0 s d refl refl in
-      let rest = same_names ss ds (λ k s d. alike (suc k) s d) (omega (arith, few)) (λ k d past. behind (suc k) d (omega (arith, past))) in
+      let rest = same_names ss ds (λ k s d. alike (suc k) s d) (omega (arith, few)) (λ k d past. after (suc k) d (omega (arith, past))) in
       ap (λ c. map (λ (d : Descriptor). d.name) (cond c (d ∷ filter looked_for ds) (filter looked_for ds))) h.same
       ∙ go (is_named s) h.name rest
     where
@@ -251,16 +251,16 @@ module _ (g : GroupDeclaration) (t : GroupContents) (made : AreTablesOfGroup (bu
         }
 
     -- after the settings come presets, which aren't booleans
-    none_behind : (j : ℕ) (d : Descriptor) → length layout.settings ≤ j → slice_get t.descriptors j ≡ Some d → is_turned d ≡ false
-    none_behind j d past d_at =
+    none_after : (j : ℕ) (d : Descriptor) → length layout.settings ≤ j → slice_get t.descriptors j ≡ Some d → is_turned d ≡ false
+    none_after j d past d_at =
         let within = slice_get_within t.descriptors j d d_at in
         let count = made.count in
         let n = j - length layout.settings in
-        let behind : j ≡ length layout.settings + n = omega (arith, past) in
-        let q = get_there layout.presets n (omega (arith, within, count, behind)) in
-        ap (λ (x : Descriptor). is_on (masks k) x.offset x.detail) ((made.entries j d d_at).preset n q.0 behind q.1)
+        let after : j ≡ length layout.settings + n = omega (arith, past) in
+        let q = get_there layout.presets n (omega (arith, within, count, after)) in
+        ap (λ (x : Descriptor). is_on (masks k) x.offset x.detail) ((made.entries j d d_at).preset n q.0 after q.1)
 
     -- the names of the booleans that are on in the masks of a preset are those that the preset turns on
     pub same_enabled_names : names_on t.descriptors (masks k) ≡ names_enabled layout p
     same_enabled_names = let count = made.count
-        in same_names is_turned is_enabled layout.settings t.descriptors alike (omega (arith, count)) none_behind
+        in same_names is_turned is_enabled layout.settings t.descriptors alike (omega (arith, count)) none_after

@@ -42,16 +42,16 @@ has_no_name ds index name past = (
 -- ---- entries of a group
 
 -- an entry with a descriptor that is no setting is a preset
-pub preset_behind : (g : Layout) (t : GroupContents) (e : ℕ) (d : Descriptor) → AreTablesOfGroup g t → slice_get t.descriptors e ≡ Some d
+pub numbered_preset : (g : Layout) (t : GroupContents) (e : ℕ) (d : Descriptor) → AreTablesOfGroup g t → slice_get t.descriptors e ≡ Some d
     → slice_get g.settings e ≡ None → (k : ℕ) × (e ≡ length g.settings + k)
     × ((p : BuiltPreset) × (slice_get g.presets k ≡ Some p) × (d ≡ preset_descriptor g.settings_size k p))
-preset_behind g t e d h at none =
+numbered_preset g t e d h at none =
     elim (cases_lt e (length g.settings)) [
       | inl before ↦ let x = get_there g.settings e before in let bad : None ≡ Some x.0 = sym none ∙ x.1 in absurd (cc)
-      | inr behind ↦
+      | inr after ↦
           let l = slice_get_within t.descriptors e d at in
           let count = h.count in
-          let p = get_there g.presets (e - length g.settings) (omega (arith, l, count, behind)) in
+          let p = get_there g.presets (e - length g.settings) (omega (arith, l, count, after)) in
           let place : e ≡ length g.settings + (e - length g.settings) = omega arith in
           (e - length g.settings, place, (p.0, p.1, (h.entries e d at).preset (e - length g.settings) p.0 place p.1))
     ]
@@ -59,15 +59,15 @@ preset_behind g t e d h at none =
 -- the descriptor of a preset's entry
 pub preset_entry : (g : Layout) (t : GroupContents) (e : ℕ) (p : BuiltPreset) (d : Descriptor) (h : AreTablesOfGroup g t)
     (is : IsPresetOf g e p) → slice_get t.descriptors e ≡ Some d → d ≡ preset_descriptor g.settings_size is.number p
-preset_entry g t e p d h is at = (h.entries e d at).preset is.number p is.behind is.there
+preset_entry g t e p d h is at = (h.entries e d at).preset is.number p is.after is.there
 
 pub preset_there : (g : Layout) (t : GroupContents) (e : ℕ) (p : BuiltPreset) → AreTablesOfGroup g t → IsPresetOf g e p
     → (d : Descriptor) × IsPresetIn t.descriptors e d
 preset_there g t e p h is =
     let l = slice_get_within g.presets is.number p is.there in
     let count = h.count in
-    let behind = is.behind in
-    let d = get_there t.descriptors e (omega (arith, l, count, behind)) in
+    let after = is.after in
+    let d = get_there t.descriptors e (omega (arith, l, count, after)) in
     (d.0, record { there = d.1; is_preset = ap (λ (d : Descriptor). d.detail) (preset_entry g t e p d.0 h is d.1) })
 
 -- no setting's detail is that of a preset
@@ -85,7 +85,7 @@ preset_is g t e d h is = go (slice_get g.settings e) refl
     go : (o : Option PlacedSetting) → slice_get g.settings e ≡ o → (p : BuiltPreset) × IsPresetOf g e p
     go (Some s) at = absurd (no_preset_detail t.enumerators (take e g.settings) s.specific d.detail
         ((h.entries e d is.there).setting s at).detail is.is_preset)
-    go None at = let b = preset_behind g t e d h is.there at in (b.2.0, record { number = b.0; behind = b.1; there = b.2.1 })
+    go None at = let b = numbered_preset g t e d h is.there at in (b.2.0, record { number = b.0; after = b.1; there = b.2.1 })
 
 -- ---- defaults
 
@@ -113,7 +113,7 @@ answers_default g t index d answer at e h = record {
       get_or_from_slice_get t.defaults d.offset held.byte 0 (ap (slice_get t.defaults) describes.offset ∙ held.there) in
       e ∙ ap (λ n. default_in n d.detail) byte
       ∙ by_kind t.enumerators (take index g.settings) s.specific d.detail held.byte describes.detail held.holds;
-  other = λ none. let b = preset_behind g t index d h at none in e
+  other = λ none. let b = numbered_preset g t index d h at none in e
       ∙ ap (λ (x : Descriptor). default_in (get_or t.defaults d.offset 0) x.detail) b.2.2;
 }
 

@@ -40,8 +40,8 @@ inside_as own booleans presets size masks e offset (AnEnum last place) sized all
 inside_as own booleans presets size masks e offset ANum sized all within h =
     let first = h.first in let byte = h.byte_is in omega (arith, sized, first, byte)
 inside_as own booleans presets size masks e offset Preset sized all within h =
-    let behind = h.behind in let is = h.offset_is in
-    let room : (h.number + 1) * size ≤ presets * size = mul-le-mul_right size (omega (arith, within, behind)) in
+    let after = h.after in let is = h.offset_is in
+    let room : (h.number + 1) * size ≤ presets * size = mul-le-mul_right size (omega (arith, within, after)) in
     omega (arith, room, all, is)
 
 pub inside_of : (t : GroupContents) → IsWellFormedGroup t → (e : ℕ) (d : Descriptor)

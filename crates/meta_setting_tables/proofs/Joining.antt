@@ -180,7 +180,7 @@ module _ (g : Layout) (built : IsBuiltLayout g) (sized : IsSized g.settings g.bo
       ⊎ ((j : ℕ) × (k ≡ g.bool_start_byte_offset + j) × (j < length (booleans_in g)) × HasBit s (g.bool_start_byte_offset + j / 8) (j % 8))
   placed k s e = elim (cases_lt k g.bool_start_byte_offset) [
     | inl before ↦ inl (before, built.bytes k s before e)
-    | inr behind ↦
+    | inr after ↦
         let place : g.bool_start_byte_offset + (k - g.bool_start_byte_offset) ≡ k = omega arith in
         let at : slice_get (booleans_in g) (k - g.bool_start_byte_offset) ≡ Some s =
         get_drop g.settings g.bool_start_byte_offset (k - g.bool_start_byte_offset) ∙ ap (slice_get g.settings) place ∙ e in
@@ -286,7 +286,7 @@ on_from i z (x ∷ xs) on = go (on_from i (bit_or z (default_byte_of x)) xs on)
 pub boolean_on : (g : Layout) → IsBuiltLayout g → IsSized g.settings g.bool_start_byte_offset g.settings_size → (byte bit : ℕ)
     → g.bool_start_byte_offset ≤ byte → bit_at (joined_at byte g.settings) bit ≡ 1
     → (j : ℕ) × (j < length (booleans_in g)) × (byte ≡ g.bool_start_byte_offset + j / 8) × (bit ≡ j % 8)
-boolean_on g built sized byte bit behind on = go (on_from bit 0 (filter (is_in_byte byte) g.settings) on)
+boolean_on g built sized byte bit after on = go (on_from bit 0 (filter (is_in_byte byte) g.settings) on)
   where
     go : (bit_at 0 bit ≡ 1) ⊎ ((k : ℕ) × ((s : PlacedSetting) × (slice_get (filter (is_in_byte byte) g.settings) k ≡ Some s)
         × (bit_at (default_byte_of s) bit ≡ 1))) → (j : ℕ) × (j < length (booleans_in g)) × (byte ≡ g.bool_start_byte_offset + j / 8)
@@ -296,7 +296,7 @@ boolean_on g built sized byte bit behind on = go (on_from bit 0 (filter (is_in_b
         let from = filter_from (is_in_byte byte) g.settings h.0 h.1.0 h.1.1 in
         let same = eqb-true h.1.0.byte_offset byte from.2 in
         elim (placed g built sized from.0 h.1.0 from.1) [
-          | inl own ↦ let l = own.0 in let b = own.1.byte_is in absurd (omega (arith, same, l, b, behind))
+          | inl own ↦ let l = own.0 in let b = own.1.byte_is in absurd (omega (arith, same, l, b, after))
           | inr at ↦ let b = at.3.byte_is in elim (cases_eq bit (at.0 % 8)) [
             | inl is ↦ (at.0, at.2, omega (arith, same, b), is)
             | inr differ ↦ let off = other_bit h.1.0 (g.bool_start_byte_offset + at.0 / 8) (at.0 % 8) at.3 bit differ in let is = h.1.2

@@ -55,7 +55,7 @@ masks_more g count p layout old new at l so e = record {
           so.bits k byte m q before at' b
           (sym (get_left old (map (λ (pair : ℕ × ℕ). pair.0) layout) (k * g.settings_size + byte)
           (omega (arith, place, size))) ∙ ap (λ w. slice_get w (k * g.settings_size + byte)) (sym e) ∙ e')
-      | inr behind ↦ absurd (omega arith)
+      | inr after ↦ absurd (omega arith)
     ]
   ];
 }

@@ -40,9 +40,9 @@ module _ (bytes : List ℕ) where
   none_on (d ∷ ds) off = ap (map (λ (d : Descriptor). d.name)) (cond-false (on d) _ _ (off 0 d refl)) ∙ none_on ds (λ k d. off (suc k) d)
 
   -- the bits of what comes after a preset are off: booleans stand before presets
-  off_behind : (ds : List Descriptor) (i j : ℕ) (c d : Descriptor) → ArePlaced ds → i ≤ j → slice_get ds i ≡ Some c
+  off_after : (ds : List Descriptor) (i j : ℕ) (c d : Descriptor) → ArePlaced ds → i ≤ j → slice_get ds i ≡ Some c
       → slice_get ds j ≡ Some d → c.detail ≡ Preset → on d ≡ false
-  off_behind ds i j c d placed order c_at d_at is = of_detail d.detail refl
+  off_after ds i j c d placed order c_at d_at is = of_detail d.detail refl
     where
       preset : StandsAtMasks (own_byte_count ds + described_boolean_count ds) (described_byte_count ds) i c.offset
       preset = subst (IsPlaced (own_byte_count ds) (described_boolean_count ds) (described_byte_count ds) i c.offset) is (placed i c c_at)
@@ -52,9 +52,9 @@ module _ (bytes : List ℕ) where
           let at = subst (IsPlaced (own_byte_count ds) (described_boolean_count ds) (described_byte_count ds) j d.offset) e
           (placed j d d_at) in
           let within = at.within in
-          let behind = at.behind in
-          let front = preset.behind in
-          absurd (omega (arith, within, behind, front, order))
+          let after = at.after in
+          let front = preset.after in
+          absurd (omega (arith, within, after, front, order))
       of_detail (EnumDetail last place) e = refl
       of_detail NumDetail e = refl
       of_detail Preset e = refl
@@ -74,6 +74,6 @@ module _ (bytes : List ℕ) where
     -- all are found at a preset
     pub at_preset : ArePlaced ds → d.detail ≡ Preset → names ≡ names_on ds bytes
     at_preset placed is =
-        let none = none_on (drop i ds) (λ k e there. off_behind ds i (i + k) d e placed (omega arith) at (sym (get_drop ds i k)
+        let none = none_on (drop i ds) (λ k e there. off_after ds i (i + k) d e placed (omega arith) at (sym (get_drop ds i k)
         ∙ there) is) in
         sym (ap (λ ns. names ++ ns) none ∙ append-nil names) ∙ so_far

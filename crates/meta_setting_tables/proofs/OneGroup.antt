@@ -64,9 +64,9 @@ same_entry g enumerators e c d within p q = ⊎_elim
     in same_setting enumerators (take e g.settings) s.0 c d (p.setting s.0 s.1) (q.setting s.0 s.1))
     (λ preset.
     let k = e - length g.settings in
-    let behind : e ≡ length g.settings + k = omega (arith, preset) in
-    let r = get_there g.presets k (omega (arith, within, behind)) in
-    p.preset k r.0 behind r.1 ∙ sym (q.preset k r.0 behind r.1))
+    let after : e ≡ length g.settings + k = omega (arith, preset) in
+    let r = get_there g.presets k (omega (arith, within, after)) in
+    p.preset k r.0 after r.1 ∙ sym (q.preset k r.0 after r.1))
     (cases_lt e (length g.settings))
 
 module _ (g : Layout) (s t : GroupContents) (p : AreTablesOfGroup g s) (q : AreTablesOfGroup g t) where

@@ -39,12 +39,12 @@ joined_again masks old once twice long p q = same_places twice once q.size each
 -- an entry is a preset of the group, or it isn't
 preset_or_none : (g : Layout) (e : ℕ) → ((p : BuiltPreset) × IsPresetOf g e p) ⊎ ((p : BuiltPreset) → IsPresetOf g e p → ⊥)
 preset_or_none g e = ⊎_elim
-    (λ setting. inr (λ p is. let behind = is.behind in absurd (omega (arith, setting, behind))))
+    (λ setting. inr (λ p is. let after = is.after in absurd (omega (arith, setting, after))))
     (λ past. ⊎_elim
     (λ within. let p = get_there g.presets (e - length g.settings) within in
-    inl (p.0, record { number = e - length g.settings; behind = omega (arith, past); there = p.1 }))
-    (λ out. inr (λ p is. let behind = is.behind in let l = slice_get_within g.presets is.number p is.there in
-    absurd (omega (arith, out, behind, l))))
+    inl (p.0, record { number = e - length g.settings; after = omega (arith, past); there = p.1 }))
+    (λ out. inr (λ p is. let after = is.after in let l = slice_get_within g.presets is.number p is.there in
+    absurd (omega (arith, out, after, l))))
     (cases_lt (e - length g.settings) (length g.presets)))
     (cases_lt e (length g.settings))
 

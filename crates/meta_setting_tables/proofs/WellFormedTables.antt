@@ -29,7 +29,7 @@ use Rattle.meta_setting_tables.specs.WellFormed.{describes_own_byte, is_boolean,
 use Rattle.meta_setting_tables.specs.WellFormed.{preset_count, described_byte_count, KeepLimits, AreWellNamed, IsPlaced, ArePlaced}
 use Rattle.meta_setting_tables.specs.WellFormed.{HasItsValues, HoldsBooleansAlone, HasFirstValue, AreGoodDefaults, AreGoodMasks}
 use Rattle.meta_setting_tables.specs.WellFormed.{IsWellFormedGroup}
-use Rattle.meta_setting_tables.proofs.EntriesRead.{preset_behind}
+use Rattle.meta_setting_tables.proofs.EntriesRead.{numbered_preset}
 use Rattle.meta_setting_tables.proofs.Passing.{counted_between}
 use Rattle.meta_setting_tables.proofs.EnumeratorsBuilt.{all_after, most_after}
 use Rattle.meta_setting_tables.proofs.Joining.{placed, boolean_on}
@@ -40,24 +40,24 @@ module _ (ds : List Descriptor) (own booleans size : ℕ) (are : (e : ℕ) (d : 
     → IsPlaced own booleans size e d.offset d.detail) where
   own_where : (e offset : ℕ) (detail : Detail) → IsPlaced own booleans size e offset detail
       → ((e < own) × (describes_own_byte detail ≡ true)) ⊎ ((own ≤ e) × (describes_own_byte detail ≡ false))
-  own_where e offset (BoolDetail bit) h = let b = h.behind in inr (omega (arith, b), refl)
+  own_where e offset (BoolDetail bit) h = let b = h.after in inr (omega (arith, b), refl)
   own_where e offset (EnumDetail last place) h = inl (h.first, refl)
   own_where e offset NumDetail h = inl (h.first, refl)
-  own_where e offset Preset h = let b = h.behind in inr (omega (arith, b), refl)
+  own_where e offset Preset h = let b = h.after in inr (omega (arith, b), refl)
 
   boolean_where : (e offset : ℕ) (detail : Detail) → IsPlaced own booleans size e offset detail
       → ((own ≤ e) × (e < own + booleans) × (is_boolean detail ≡ true)) ⊎ (((e < own) ⊎ (own + booleans ≤ e)) × (is_boolean detail ≡ false))
-  boolean_where e offset (BoolDetail bit) h = let b = h.behind in let w = h.within in inl (omega (arith, b), omega (arith, b, w), refl)
+  boolean_where e offset (BoolDetail bit) h = let b = h.after in let w = h.within in inl (omega (arith, b), omega (arith, b, w), refl)
   boolean_where e offset (EnumDetail last place) h = inr (inl h.first, refl)
   boolean_where e offset NumDetail h = inr (inl h.first, refl)
-  boolean_where e offset Preset h = let b = h.behind in inr (inr (omega (arith, b)), refl)
+  boolean_where e offset Preset h = let b = h.after in inr (inr (omega (arith, b)), refl)
 
   preset_where : (e offset : ℕ) (detail : Detail) → IsPlaced own booleans size e offset detail
       → ((own + booleans ≤ e) × (is_preset detail ≡ true)) ⊎ ((e < own + booleans) × (is_preset detail ≡ false))
-  preset_where e offset (BoolDetail bit) h = let b = h.behind in let w = h.within in inr (omega (arith, b, w), refl)
+  preset_where e offset (BoolDetail bit) h = let b = h.after in let w = h.within in inr (omega (arith, b, w), refl)
   preset_where e offset (EnumDetail last place) h = let f = h.first in inr (omega (arith, f), refl)
   preset_where e offset NumDetail h = let f = h.first in inr (omega (arith, f), refl)
-  preset_where e offset Preset h = let b = h.behind in inl (omega (arith, b), refl)
+  preset_where e offset Preset h = let b = h.after in inl (omega (arith, b), refl)
 
   module _ (presets : ℕ) (long : length ds ≡ own + booleans + presets) where
     own_counted : own_byte_count ds ≡ own
@@ -122,17 +122,17 @@ module _ (g : Layout) (t : GroupContents) (built : IsBuiltLayout g)
                 (record {
                   number = bit.0;
                   within = bit.2;
-                  behind = bit.1;
+                  after = bit.1;
                   place = record { byte_is = describes.offset ∙ bit.3.byte_is; bit_is = bit.3.bit_is };
                 })
           ]
       go None none =
-          let p = preset_behind g t e d h at none in
+          let p = numbered_preset g t e d h at none in
           let total = setting_total in
           let place = p.1 in
           subst (λ (x : Descriptor). IsPlaced g.bool_start_byte_offset
           (length (booleans_in g)) g.settings_size e x.offset x.detail) (sym p.2.2)
-          (record { number = p.0; behind = omega (arith, place, total); offset_is = refl })
+          (record { number = p.0; after = omega (arith, place, total); offset_is = refl })
 
   entries_long : length t.descriptors ≡ g.bool_start_byte_offset + length (booleans_in g) + length g.presets
   entries_long = let count = h.count in let total = setting_total in omega (arith, count, total)
@@ -172,7 +172,7 @@ module _ (g : Layout) (t : GroupContents) (built : IsBuiltLayout g)
             is_plain = subst (All IsPlainByte) (sym describes.description) own.is_plain;
           }
       go None none =
-          let p = preset_behind g t e d h at none in
+          let p = numbered_preset g t e d h at none in
           subst (λ (x : Descriptor). IsDescribed x.name x.description) (sym p.2.2) (built.described_presets p.0 p.2.0 p.2.1)
 
   enum_early : g.settings_size ≤ 255 → (k : ℕ) (s : PlacedSetting) (values : List (List ℕ))
@@ -235,7 +235,7 @@ module _ (g : Layout) (t : GroupContents) (built : IsBuiltLayout g)
       go (Some s) there = of_setting (take e g.settings) s.specific d.detail
           (λ values is. built.enums e s values there is) ((h.entries e d at).setting s there).detail
       go None none =
-          let p = preset_behind g t e d h at none in subst (λ (x : Descriptor). HasItsValues t.enumerators x.detail) (sym p.2.2) tt
+          let p = numbered_preset g t e d h at none in subst (λ (x : Descriptor). HasItsValues t.enumerators x.detail) (sym p.2.2) tt
 
   -- default bytes
   first_value : (e : ℕ) (d : Descriptor) → slice_get t.descriptors e ≡ Some d → HasFirstValue t.defaults d.offset d.detail
@@ -256,7 +256,7 @@ module _ (g : Layout) (t : GroupContents) (built : IsBuiltLayout g)
           of_setting (take e g.settings) d.offset held.byte s.specific d.detail
           (ap (slice_get t.defaults) describes.offset ∙ held.there) held.holds describes.detail
       go None none =
-          let p = preset_behind g t e d h at none in subst (λ (x : Descriptor). HasFirstValue t.defaults x.offset x.detail) (sym p.2.2) tt
+          let p = numbered_preset g t e d h at none in subst (λ (x : Descriptor). HasFirstValue t.defaults x.offset x.detail) (sym p.2.2) tt
 
   -- what is told of the counts of the group is told of those of the entries
   alone_as_counted : (byte m : ℕ) → HoldsBooleansAlone g.bool_start_byte_offset (length (booleans_in g)) byte m
@@ -269,7 +269,7 @@ module _ (g : Layout) (t : GroupContents) (built : IsBuiltLayout g)
     count = h.defaults.size ∙ sym bytes_are;
     bytes = fit;
     enums = everywhere t.descriptors first_value;
-    booleans = λ byte b behind at.
+    booleans = λ byte b after at.
         let inside = slice_get_within t.defaults byte b at in
         let size = h.defaults.size in
         let start = own_is in
@@ -278,7 +278,7 @@ module _ (g : Layout) (t : GroupContents) (built : IsBuiltLayout g)
         alone_as_counted byte b (record {
           fits = at_place (λ n. n < 256) t.defaults byte b fit at;
           bits = λ bit low on.
-              let j = boolean_on g built sized byte bit (omega (arith, behind, start)) (ap (λ n. bit_at n bit) (sym is) ∙ on) in
+              let j = boolean_on g built sized byte bit (omega (arith, after, start)) (ap (λ n. bit_at n bit) (sym is) ∙ on) in
               record { number = j.0; within = j.1; place = record { byte_is = j.2; bit_is = j.3 } };
         });
   }

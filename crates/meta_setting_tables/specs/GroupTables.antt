@@ -54,7 +54,7 @@ pub record AreTablesOfGroup (g : Layout) (t : GroupContents) : Type 0 where
 -- entry e of the group is preset p
 pub record IsPresetOf (g : Layout) (e : ℕ) (p : BuiltPreset) : Type 0 where
   pub number : ℕ
-  pub behind : e ≡ length g.settings + number
+  pub after : e ≡ length g.settings + number
   pub there : slice_get g.presets number ≡ Some p
 
 -- what the entry with this detail is by default, as a number, where its default byte is this one; a preset has no default

@@ -85,13 +85,13 @@ pub record HasPlace (own number byte bit : ℕ) : Type 0 where
 pub record StandsAtBit (own booleans e offset bit : ℕ) : Type 0 where
   pub number : ℕ
   pub within : number < booleans
-  pub behind : e ≡ own + number
+  pub after : e ≡ own + number
   pub place : HasPlace own number offset bit
 
 -- entry e is a preset, which come after the settings, and its masks begin after those of the presets before it, one for each setting byte
 pub record StandsAtMasks (settings size e offset : ℕ) : Type 0 where
   pub number : ℕ
-  pub behind : e ≡ settings + number
+  pub after : e ≡ settings + number
   pub offset_is : offset ≡ number * size
 
 -- Entry e stands where the layout rule puts it, if `own` entries have a byte of their own, `booleans` are booleans, and there are `size`

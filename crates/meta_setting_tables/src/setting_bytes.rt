@@ -12,10 +12,10 @@ fn is_boolean_bit(shape: &Shape, byte: usize, bit: u8) -> bool
     requires bit { bit < 8 }
     ensures { IsTrue result ↔ IsBooleanBit shape.now.own_bytes shape.now.booleans byte bit }
 {
-    let Some(behind) = byte.checked_sub(shape.own_bytes) else {
+    let Some(after) = byte.checked_sub(shape.own_bytes) else {
         return false;
     };
-    behind * 8 + usize::from(bit) < shape.booleans
+    after * 8 + usize::from(bit) < shape.booleans
 }
 
 fn is_off_or_boolean(shape: &Shape, byte: usize, value: u8, bit: u8) -> bool

@@ -5,7 +5,7 @@ use Rattle.std.specs.List.{filter}
 use Rattle.std.proofs.lemmas.Bool.{cases_eq, false≢true}
 use Rattle.std.proofs.lemmas.Bool.Decides.{Decides-eqb}
 use Rattle.std.proofs.lemmas.List.Kept.{AllPairs-filter}
-use Rattle.meta_lists.proofs.Contained.{contains_behind, contains_cases, contains_first, contains_none}
+use Rattle.meta_lists.proofs.Contained.{contains_after, contains_cases, contains_first, contains_none}
 use Rattle.meta_settings.specs.TurnedOn.{firsts}
 use Rattle.meta_settings.specs.Laws.{IsEachOnce}
 
@@ -14,14 +14,14 @@ kept_from n y [] c = absurd (contains_none y c)
 kept_from n y (x ∷ xs) c =
     elim (eqb x n) as (λ b. eqb x n ≡ b → Contains (cond (not b) (x ∷ filter (λ m. not (eqb m n)) xs) (filter (λ m. not (eqb m n)) xs)) y
     → Contains (x ∷ xs) y × (y ≢ n)) [
-      | true ↦ λ e c. let (at, differs) = kept_from n y xs c in (contains_behind x y xs at, differs)
+      | true ↦ λ e c. let (at, differs) = kept_from n y xs c in (contains_after x y xs at, differs)
       | false ↦ λ e c.
           ⊎_elim
           (λ same. (
             subst (λ z. Contains (x ∷ xs) z) same (contains_first x xs),
             λ is. false≢true (sym e ∙ (Decides-eqb x n).1 (same ∙ is)),
           ))
-          (λ later. let (at, differs) = kept_from n y xs later in (contains_behind x y xs at, differs))
+          (λ later. let (at, differs) = kept_from n y xs later in (contains_after x y xs at, differs))
           (contains_cases x y (filter (λ m. not (eqb m n)) xs) c)
     ] refl c
 
@@ -34,7 +34,7 @@ kept_to n y (x ∷ xs) differs c =
       | false ↦ λ e.
           ⊎_elim
           (λ same. subst (λ z. Contains (x ∷ filter (λ m. not (eqb m n)) xs) z) same (contains_first x (filter (λ m. not (eqb m n)) xs)))
-          (λ later. contains_behind x y (filter (λ m. not (eqb m n)) xs) (kept_to n y xs differs later))
+          (λ later. contains_after x y (filter (λ m. not (eqb m n)) xs) (kept_to n y xs differs later))
           (contains_cases x y xs c)
     ] refl
 
@@ -43,7 +43,7 @@ firsts_from [] y c = absurd (contains_none y c)
 firsts_from (x ∷ xs) y c =
     ⊎_elim
     (λ same. subst (λ z. Contains (x ∷ xs) z) same (contains_first x xs))
-    (λ later. contains_behind x y xs (firsts_from xs y (kept_from x y (firsts xs) later).0))
+    (λ later. contains_after x y xs (firsts_from xs y (kept_from x y (firsts xs) later).0))
     (contains_cases x y (filter (λ m. not (eqb m x)) (firsts xs)) c)
 
 pub firsts_to : (xs : List ℕ) (y : ℕ) → Contains xs y → Contains (firsts xs) y
@@ -54,7 +54,7 @@ firsts_to (x ∷ xs) y c =
     (λ later.
     ⊎_elim
     (λ same. subst (λ z. Contains (firsts (x ∷ xs)) z) (sym same) (contains_first x (filter (λ m. not (eqb m x)) (firsts xs))))
-    (λ differs. contains_behind x y (filter (λ m. not (eqb m x)) (firsts xs)) (kept_to x y (firsts xs) differs (firsts_to xs y later)))
+    (λ differs. contains_after x y (filter (λ m. not (eqb m x)) (firsts xs)) (kept_to x y (firsts xs) differs (firsts_to xs y later)))
     (cases_eq y x))
     (contains_cases x y xs c)
 

@@ -15,7 +15,7 @@ use Rattle.meta_settings.specs.GroupDeclaration.{GroupDeclaration, Entry, entrie
 use Rattle.meta_settings.specs.GroupDeclaration.{entry_count, boolean_count}
 use Rattle.meta_settings.specs.GroupFaults.{IsWellNamed, IsGoodEnum, AreMet, HasTooMany, EntryRule, EntryNameRule, EntryDuplicateRule}
 use Rattle.meta_settings.specs.GroupFaults.{EnumRule, PresetRule, entry_rule_number, GroupPosition, OfGroupName, OfEntry, OfCounts}
-use Rattle.meta_settings.specs.GroupFaults.{group_position_key, BreaksRule, GroupShowsAt, IsValidGroup}
+use Rattle.meta_settings.specs.GroupFaults.{group_position_key, BreaksRule, GroupHasFaultAt, IsValidGroup}
 use Rattle.meta_settings.specs.Searched.{IsGroupCleanBefore}
 
 -- the rules for an entry, in order
@@ -46,7 +46,7 @@ module _ (d : GroupDeclaration) (g : ℕ) where
       → e ≡ f
   one_broken k x rule e f a b = grind (arith, one_earlier)
 
-  one_shown : (p : GroupPosition) (e f : DefinitionError) → GroupShowsAt d g p e → GroupShowsAt d g p f → e ≡ f
+  one_shown : (p : GroupPosition) (e f : DefinitionError) → GroupHasFaultAt d g p e → GroupHasFaultAt d g p f → e ≡ f
   one_shown OfGroupName e f a b = a.0 ∙ sym b.0
   one_shown (OfEntry k rule) e f a b =
       one_broken k b.0 rule e f (subst (λ (x : Entry). BreaksRule d g k x rule e) (same_Some a.0 b.0 (sym a.1 ∙ b.1)) a.2) b.2
@@ -58,16 +58,16 @@ module _ (d : GroupDeclaration) (g : ℕ) where
   abbrev pub places_of : ℕ → ℕ
   places_of part = if part == 1 then entry_count d else 1
 
-  within : (p : GroupPosition) (e : DefinitionError) → GroupShowsAt d g p e → IsIn 3 places_of rules_of (group_position_key p)
+  within : (p : GroupPosition) (e : DefinitionError) → GroupHasFaultAt d g p e → IsIn 3 places_of rules_of (group_position_key p)
   within p e s = grind (arith, slice_get_within, length-entries, few_rules)
 
-  pub searchable : IsSearchable group_position_key (GroupShowsAt d g) 3 places_of rules_of
+  pub searchable : IsSearchable group_position_key (GroupHasFaultAt d g) 3 places_of rules_of
   searchable = record { position_of = position_of; known = known; one = one_shown; within = within }
 
 module _ (d : GroupDeclaration) where
   -- the search begins
   pub before_all : IsGroupCleanBefore d OfGroupName
-  before_all g = none_before_first group_position_key (GroupShowsAt d g)
+  before_all g = none_before_first group_position_key (GroupHasFaultAt d g)
 
   pub passed_name : IsName d.name → IsGroupCleanBefore d (OfEntry 0 EntryNameRule)
   passed_name named g =
@@ -83,7 +83,7 @@ module _ (d : GroupDeclaration) (k : ℕ) (x : Entry) (at : slice_get (entries_o
   name_at = get_map (λ (x : Entry). x.name) (entries_of d) k x at
 
   -- what is shown at the place is shown of the entry
-  here : (g : ℕ) (rule : EntryRule) (e : DefinitionError) → GroupShowsAt d g (OfEntry k rule) e → BreaksRule d g k x rule e
+  here : (g : ℕ) (rule : EntryRule) (e : DefinitionError) → GroupHasFaultAt d g (OfEntry k rule) e → BreaksRule d g k x rule e
   here g rule e s = subst (λ (z : Entry). BreaksRule d g k z rule e) (same_Some s.0 x (sym s.1 ∙ at)) s.2
 
   pub well_named : IsGroupCleanBefore d (OfEntry k EntryNameRule) → IsWellNamed x → IsGroupCleanBefore d (OfEntry k EntryDuplicateRule)

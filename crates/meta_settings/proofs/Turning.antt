@@ -6,7 +6,7 @@ use Rattle.std.proofs.Math.Seq.{take-append_seam}
 use Rattle.std.proofs.lemmas.List.{append_assoc, append-nil}
 use Rattle.std.proofs.lemmas.List.Elements.{Contains-append_left, Contains-append_right, Contains-append_cases}
 use Rattle.meta_lists.proofs.Places.{get_seam}
-use Rattle.meta_lists.proofs.Contained.{contains_behind, contains_cases, contains_first, contains_none}
+use Rattle.meta_lists.proofs.Contained.{contains_after, contains_cases, contains_first, contains_none}
 use Rattle.meta_settings.specs.declared.index.PresetType.{PresetType}
 use Rattle.meta_settings.specs.GroupDeclaration.{PresetDeclaration}
 use Rattle.meta_settings.specs.Layout.{BuiltPreset}
@@ -20,7 +20,7 @@ meant_from earlier [] b c = absurd (contains_none b c)
 meant_from earlier (a ∷ rest) b c =
     ⊎_elim
     (λ here. (a, contains_first a rest, here))
-    (λ later. let (x, at, meant) = meant_from earlier rest b later in (x, contains_behind a x rest at, meant))
+    (λ later. let (x, at, meant) = meant_from earlier rest b later in (x, contains_after a x rest at, meant))
     (Contains-append_cases (meant_by earlier a) (flat_map (meant_by earlier) rest) b c)
 
 pub meant_to : (earlier : List BuiltPreset) (args : List PresetType) (b : ℕ) (a : PresetType) → Contains args a

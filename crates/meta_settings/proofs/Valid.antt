@@ -61,13 +61,13 @@ module _ (d : GroupDeclaration) (valid : IsValidGroup d) where
   pub start_length : length (in_bytes 0 (others_among d.settings)) ≡ start_of d
   start_length = length-in_bytes 0 (others_among d.settings)
 
-  behind : drop (start_of d) (laid_out d) ≡ in_bits (start_of d) 0 (booleans_among d.settings)
-  behind = ap (λ n. drop n (laid_out d)) (sym start_length)
+  after : drop (start_of d) (laid_out d) ≡ in_bits (start_of d) 0 (booleans_among d.settings)
+  after = ap (λ n. drop n (laid_out d)) (sym start_length)
       ∙ drop-append_seam (in_bytes 0 (others_among d.settings)) (in_bits (start_of d) 0 (booleans_among d.settings))
 
   pub sized : IsSized (laid_out d) (start_of d) (byte_count d)
   sized =
-      let count = ap length behind ∙ length-in_bits (start_of d) 0 (booleans_among d.settings) in
+      let count = ap length after ∙ length-in_bits (start_of d) 0 (booleans_among d.settings) in
       let whole = length-append (in_bytes 0 (others_among d.settings)) (in_bits (start_of d) 0 (booleans_among d.settings)) in
       let start = start_length in
       let few = few_booleans in

@@ -1,5 +1,5 @@
 -- The faults of a declared group, and the order in which they are looked for.
---     GroupShowsAt d g p e       the group with the number g has the fault e at the position p
+--     GroupHasFaultAt d g p e       the group with the number g has the fault e at the position p
 --     IsFirstGroupFault d g e    e is the first fault of the group
 --     IsValidGroup d             it has no fault
 use Rattle.std.specs.Prelude.{◌≡◌, ◌≢◌, ◌<◌, ◌≤◌, ◌-◌, ◌⊎◌, ℕ, List, [], length, slice_get, Some, IfSome, All, unwrap_or}
@@ -10,7 +10,7 @@ use Rattle.meta_types.specs.declared.fault.DefinitionError.TheVariants.{BadName,
 use Rattle.meta_settings.specs.declared.index.PresetType.{PresetType}
 use Rattle.meta_settings.specs.declared.index.PresetType.TheVariants.{BoolSetting, OtherPreset}
 use Rattle.meta_types.specs.SharedNames.{IsDuplicate, AreDistinct}
-use Rattle.meta_types.specs.FirstFault.{Key, key_at, IsFirstShown, ShowsNone}
+use Rattle.meta_types.specs.FirstFault.{Key, key_at, IsFirstFound, HasNoFault}
 use Rattle.meta_settings.specs.GroupDeclaration.{GroupDeclaration, Entry, entries_of, names_of_entries, entry_count, boolean_count}
 use Rattle.meta_settings.specs.GroupDeclaration.{byte_count}
 
@@ -84,15 +84,15 @@ BreaksRule d g k x EnumRule e = (e ≡ BadEnum g k) × (IfSome x.values IsGoodEn
 BreaksRule d g k x PresetRule e = (e ≡ BadPreset g k) × (AreMet (boolean_count d) (k - length d.settings) x.args → ⊥)
 
 -- what is at the position breaks the rule that is looked at there, and e tells of it
-abbrev pub GroupShowsAt : GroupDeclaration → ℕ → GroupPosition → DefinitionError → Type 0
-GroupShowsAt d g OfGroupName e = (e ≡ BadName (AtGroup g)) × (IsName d.name → ⊥)
-GroupShowsAt d g (OfEntry k rule) e = (x : Entry) × (slice_get (entries_of d) k ≡ Some x) × BreaksRule d g k x rule e
-GroupShowsAt d g OfCounts e = (e ≡ TooManySettings g (boolean_count d) (byte_count d) (entry_count d)) × HasTooMany d
+abbrev pub GroupHasFaultAt : GroupDeclaration → ℕ → GroupPosition → DefinitionError → Type 0
+GroupHasFaultAt d g OfGroupName e = (e ≡ BadName (AtGroup g)) × (IsName d.name → ⊥)
+GroupHasFaultAt d g (OfEntry k rule) e = (x : Entry) × (slice_get (entries_of d) k ≡ Some x) × BreaksRule d g k x rule e
+GroupHasFaultAt d g OfCounts e = (e ≡ TooManySettings g (boolean_count d) (byte_count d) (entry_count d)) × HasTooMany d
 
 -- e is the first fault of the group with the number g
 abbrev pub IsFirstGroupFault : GroupDeclaration → ℕ → DefinitionError → Type 0
-IsFirstGroupFault d g e = IsFirstShown group_position_key (GroupShowsAt d g) e
+IsFirstGroupFault d g e = IsFirstFound group_position_key (GroupHasFaultAt d g) e
 
 -- the group breaks no rule, whatever its number is
 abbrev pub IsValidGroup : GroupDeclaration → Type 0
-IsValidGroup d = (g : ℕ) → ShowsNone (GroupShowsAt d g)
+IsValidGroup d = (g : ℕ) → HasNoFault (GroupHasFaultAt d g)

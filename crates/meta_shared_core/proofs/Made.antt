@@ -98,14 +98,14 @@ table_derivable (t ∷ tables) (suc k) d within e = table_derivable tables k d (
 
 -- the rows of a table before those of others
 pub tables_joined : (names others : List (List ℕ)) (formats of : List Format) (derived more : ℕ)
-    (rows behind : List Row) → IsTable names formats derived rows → IsTable others of more behind
-    → IsTable (names ++ others) (formats ++ of) (derived + more) (rows ++ behind)
-tables_joined names others formats of derived more rows behind first then = record {
-  are_named = map-append row_name rows behind ∙ (ap (λ xs. xs ++ map row_name behind) first.are_named
+    (rows after : List Row) → IsTable names formats derived rows → IsTable others of more after
+    → IsTable (names ++ others) (formats ++ of) (derived + more) (rows ++ after)
+tables_joined names others formats of derived more rows after first then = record {
+  are_named = map-append row_name rows after ∙ (ap (λ xs. xs ++ map row_name after) first.are_named
       ∙ ap (λ xs. names ++ xs) then.are_named);
-  are_of = map-append row_format rows behind ∙ (ap (λ xs. xs ++ map row_format behind) first.are_of ∙ ap (λ xs. formats ++ xs) then.are_of);
-  are_derived = sum_by-append derived_in_row rows behind
-      ∙ (ap (λ n. n + derived_in behind) first.are_derived ∙ ap (λ n. derived + n) then.are_derived);
-  derivable = list_all-append is_derivable_row rows behind
-      ∙ (ap (λ b. b && list_all is_derivable_row behind) first.derivable ∙ then.derivable);
+  are_of = map-append row_format rows after ∙ (ap (λ xs. xs ++ map row_format after) first.are_of ∙ ap (λ xs. formats ++ xs) then.are_of);
+  are_derived = sum_by-append derived_in_row rows after
+      ∙ (ap (λ n. n + derived_in after) first.are_derived ∙ ap (λ n. derived + n) then.are_derived);
+  derivable = list_all-append is_derivable_row rows after
+      ∙ (ap (λ b. b && list_all is_derivable_row after) first.derivable ∙ then.derivable);
 }

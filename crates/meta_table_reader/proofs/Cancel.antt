@@ -7,9 +7,9 @@ use Rattle.std.specs.List.{flat_map, position_or_len}
 use Rattle.std.proofs.Math.Seq.{take-append_seam, drop-append_seam}
 use Rattle.std.proofs.lemmas.Fmt.{decimal_injective}
 use Rattle.meta_table_reader.specs.Spans.{lacks, begins_with, is_line}
-use Rattle.meta_table_reader.proofs.Ends.{first_behind, line_left}
+use Rattle.meta_table_reader.proofs.Ends.{first_after, line_left}
 use Rattle.meta_table_reader.proofs.Lacking.{any_number_lacks}
-use Rattle.meta_table_reader.proofs.ItemsRead.{all_first, all_behind}
+use Rattle.meta_table_reader.proofs.ItemsRead.{all_first, all_after}
 
 -- after the same front
 pub cancel_front : (front r s : List ℕ) → front ++ r ≡ front ++ s → r ≡ s
@@ -19,8 +19,8 @@ cancel_front front r s e = sym (drop-append_seam front r) ∙ ap (drop (length f
 pub cancel_item : (stop : ℕ) (x y r s : List ℕ) → lacks stop x ≡ true → lacks stop y ≡ true → begins_with stop r ≡ true
     → begins_with stop s ≡ true → x ++ r ≡ y ++ s → (x ≡ y) × (r ≡ s)
 cancel_item stop x y r s free_x free_y stops_r stops_s e =
-    let same : length x ≡ length y = sym (first_behind stop x r free_x stops_r) ∙ ap (position_or_len (λ c. c == stop)) e
-    ∙ first_behind stop y s free_y stops_s in (
+    let same : length x ≡ length y = sym (first_after stop x r free_x stops_r) ∙ ap (position_or_len (λ c. c == stop)) e
+    ∙ first_after stop y s free_y stops_s in (
       sym (take-append_seam x r) ∙ (λ i. take (same i) (e i)) ∙ take-append_seam y s,
       sym (drop-append_seam x r)
           ∙ (λ i. drop (same i) (e i)) ∙ drop-append_seam y s,
@@ -48,7 +48,7 @@ cancel_lines [] (y ∷ ys) r s all_x all_y same e = absurd (omega (arith, same))
 cancel_lines (x ∷ xs) [] r s all_x all_y same e = absurd (omega (arith, same))
 cancel_lines (x ∷ xs) (y ∷ ys) r s all_x all_y same e =
     let is = λ (line : List ℕ). IsTrue (is_line line) in
-    cancel_lines xs ys r s (all_behind is x xs all_x) (all_behind is y ys all_y) (omega (arith, same))
+    cancel_lines xs ys r s (all_after is x xs all_x) (all_after is y ys all_y) (omega (arith, same))
     (cancel_line x y (flat_map (λ line. line) xs ++ r) (flat_map (λ line. line) ys ++ s) (all_first is x xs all_x) (all_first is y ys all_y)
     (sym (append_assoc x (flat_map (λ line. line) xs) r) ∙ e ∙ append_assoc y (flat_map (λ line. line) ys) s))
 
@@ -63,6 +63,6 @@ cancel_items P text told (x ∷ xs) [] r s all_x all_y same e = absurd (omega (a
 cancel_items P text told (x ∷ xs) (y ∷ ys) r s all_x all_y same e =
     let (first, left) = told x y (flat_map text xs ++ r) (flat_map text ys ++ s) (all_first P x xs all_x) (all_first P y ys all_y)
     (sym (append_assoc (text x) (flat_map text xs) r) ∙ e ∙ append_assoc (text y) (flat_map text ys) s) in
-    let (behind, rest) = cancel_items P text told xs ys r s (all_behind P x xs all_x) (all_behind P y ys all_y) (omega (arith, same)) left
+    let (after, rest) = cancel_items P text told xs ys r s (all_after P x xs all_x) (all_after P y ys all_y) (omega (arith, same)) left
     in
-    ((λ i. first i ∷ behind i), rest)
+    ((λ i. first i ∷ after i), rest)

@@ -99,11 +99,11 @@ before_description = codes "\",\n        description: \""
 abbrev pub before_offset : List ℕ
 before_offset = codes "\",\n        offset: "
 
-abbrev pub behind_detail : List ℕ
-behind_detail = codes ",\n    }\n    ,\n"
+abbrev pub after_detail : List ℕ
+after_detail = codes ",\n    }\n    ,\n"
 
 abbrev pub at_detail : Descriptor → List ℕ → List ℕ
-at_detail d rest = before_detail ++ (detail_text d.detail ++ (behind_detail ++ rest))
+at_detail d rest = before_detail ++ (detail_text d.detail ++ (after_detail ++ rest))
 
 abbrev pub at_offset : Descriptor → List ℕ → List ℕ
 at_offset d rest = before_offset ++ (decimal d.offset ++ at_detail d rest)
@@ -119,7 +119,7 @@ pub descriptor_opened : (d : Descriptor) (rest : List ℕ) → descriptor_text d
 unfolding descriptor_block
 descriptor_opened d rest = ap (λ (w : List ℕ). before_name ++ w)
     (regroup_block d.name before_description d.description before_offset (decimal d.offset) before_detail
-    (detail_text d.detail) behind_detail rest)
+    (detail_text d.detail) after_detail rest)
 
 pub descriptor_told : (x y : Descriptor) (r s : List ℕ) → IsShownDescriptor x → IsShownDescriptor y
     → descriptor_text x ++ r ≡ descriptor_text y ++ s → (x ≡ y) × (r ≡ s)
@@ -133,5 +133,5 @@ descriptor_told x y r s one other e =
     (cancel_front before_description _ _ a) in
     let (offset, c) = cancel_number 44 x.offset y.offset (at_detail x r) (at_detail y s) refl
     (omega (arith, offset_one)) (omega (arith, offset_other)) refl refl (cancel_front before_offset _ _ b) in
-    let (detail, d) = detail_told x.detail y.detail (behind_detail ++ r) (behind_detail ++ s) one.detail other.detail c in
-    (λ i. record { name = name i; description = description i; offset = offset i; detail = detail i }, cancel_front behind_detail r s d)
+    let (detail, d) = detail_told x.detail y.detail (after_detail ++ r) (after_detail ++ s) one.detail other.detail c in
+    (λ i. record { name = name i; description = description i; offset = offset i; detail = detail i }, cancel_front after_detail r s d)

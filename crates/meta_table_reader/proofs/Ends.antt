@@ -10,14 +10,14 @@ use Rattle.std.proofs.lemmas.List.Folds.{list_all-append}
 use Rattle.std.proofs.lemmas.Fmt.{decimal_by_steps}
 use Rattle.std.specs.Char.{is_ascii_digit}
 use Rattle.std.specs.Fmt.{decimal}
-use Rattle.meta_table_reader.specs.Spans.{lacks, begins_with, is_nothing, is_line, behind_line, behind_lines}
+use Rattle.meta_table_reader.specs.Spans.{lacks, begins_with, is_nothing, is_line, after_line, after_lines}
 
 -- the first place of the byte is the one after the item
-pub first_behind : (stop : ℕ) (item rest : List ℕ) → lacks stop item ≡ true → begins_with stop rest ≡ true
+pub first_after : (stop : ℕ) (item rest : List ℕ) → lacks stop item ≡ true → begins_with stop rest ≡ true
     → position_or_len (λ c. c == stop) (item ++ rest) ≡ length item
-first_behind stop [] [] free stops = absurd (cc)
-first_behind stop [] (c ∷ cs) free stops = ap (λ b. cond (not b) (1 + position_or_len (λ c. c == stop) cs) 0) stops
-first_behind stop (c ∷ item) rest free stops = by_test (c == stop) free (λ free. first_behind stop item rest free stops)
+first_after stop [] [] free stops = absurd (cc)
+first_after stop [] (c ∷ cs) free stops = ap (λ b. cond (not b) (1 + position_or_len (λ c. c == stop) cs) 0) stops
+first_after stop (c ∷ item) rest free stops = by_test (c == stop) free (λ free. first_after stop item rest free stops)
   where
     by_test : (b : Bool) → (not b && lacks stop item) ≡ true
         → (lacks stop item ≡ true → position_or_len (λ c. c == stop) (item ++ rest) ≡ length item)
@@ -77,25 +77,25 @@ line_some [] is = absurd (cc)
 line_some (c ∷ cs) is = omega arith
 
 -- after one more line
-pub one_line_more : (count : ℕ) (text : List ℕ) → behind_lines (suc count) text ≡ behind_line (behind_lines count text)
+pub one_line_more : (count : ℕ) (text : List ℕ) → after_lines (suc count) text ≡ after_line (after_lines count text)
 one_line_more zero text = refl
-one_line_more (suc count) text = one_line_more count (behind_line text)
+one_line_more (suc count) text = one_line_more count (after_line text)
 
 -- after as many lines as it has bytes, a text has nothing left
-none_behind : (count : ℕ) (text : List ℕ) → length text ≤ count → behind_lines count text ≡ []
-none_behind zero [] few = refl
-none_behind zero (c ∷ cs) few = absurd (omega (arith, few))
-none_behind (suc count) text few =
+none_after : (count : ℕ) (text : List ℕ) → length text ≤ count → after_lines count text ≡ []
+none_after zero [] few = refl
+none_after zero (c ∷ cs) few = absurd (omega (arith, few))
+none_after (suc count) text few =
     let end = position_or_len (λ c. c == 10) text in
     let first = length-drop end text in
-    let behind = length-drop 1 (drop end text) in
-    none_behind count (behind_line text) (omega (arith, few, first, behind))
+    let after = length-drop 1 (drop end text) in
+    none_after count (after_line text) (omega (arith, few, first, after))
 
 -- and so after any further lines
 pub lines_passed : (count passed : ℕ) (text : List ℕ) → passed ≤ count → (passed < count → length text ≤ passed)
-    → behind_lines passed text ≡ behind_lines count text
+    → after_lines passed text ≡ after_lines count text
 lines_passed count passed text most few = ⊎_elim
     (λ l. let past : length text ≤ passed = few l in
-    none_behind passed text past ∙ sym (none_behind count text (omega (arith, past, most))))
-    (λ g. let same : passed ≡ count = omega (arith, g, most) in ap (λ n. behind_lines n text) same)
+    none_after passed text past ∙ sym (none_after count text (omega (arith, past, most))))
+    (λ g. let same : passed ≡ count = omega (arith, g, most) in ap (λ n. after_lines n text) same)
     (cases_lt passed count)

@@ -23,7 +23,7 @@ use Rattle.meta_table_text.specs.OpcodeText.{or_nothing, camel_at, bool_text, fl
 use Rattle.meta_table_text.specs.OpcodeText.{second_comment, entry_comments}
 use Rattle.meta_table_reader.specs.Spans.{lacks, is_line}
 use Rattle.meta_table_reader.proofs.Ends.{number_lacks}
-use Rattle.meta_table_reader.proofs.Lacking.{both_lack, line_behind}
+use Rattle.meta_table_reader.proofs.Lacking.{both_lack, line_after}
 use Rattle.meta_table_reader.specs.EntryLines.{control_lines, second_lines}
 use Rattle.meta_table_reader.specs.Shown.{IsShownConstraint}
 use Rattle.meta_table_reader.proofs.SetLines.{HasNoEnd, parted_lacks, set_or_nothing_lacks, set_comment_line, are_lines}
@@ -79,15 +79,15 @@ flags_line name flags free =
     let third : List ℕ = codes ", requires_typevar_operand=" ++ (differs ++ last) in
     let second : List ℕ = codes ", use_typevar_operand=" ++ (designated ++ third) in
     let first : List ℕ = codes ": fixed_results=" ++ (results ++ second) in
-    line_behind name first free
-    (line_behind results second (number_lacks 10 refl (result_count flags) (omega arith))
-    (line_behind designated third (bool_lacks (flags / 8 % 2 == 1))
-    (line_behind differs last (bool_lacks (flags / 16 % 2 == 1))
-    (line_behind values (10 ∷ []) (number_lacks 10 refl (value_count flags) (omega arith)) refl))))
+    line_after name first free
+    (line_after results second (number_lacks 10 refl (result_count flags) (omega arith))
+    (line_after designated third (bool_lacks (flags / 8 % 2 == 1))
+    (line_after differs last (bool_lacks (flags / 16 % 2 == 1))
+    (line_after values (10 ∷ []) (number_lacks 10 refl (value_count flags) (omega arith)) refl))))
 
 constraints_line : (cs : List NumberConstraint) → All IsShownConstraint cs → is_line (constraints_comment cs) ≡ true
 unfolding constraints_comment
-constraints_line cs shown = line_behind (quoted_all cs) (codes "]" ++ 10 ∷ []) (quoted_all_lack cs shown) refl
+constraints_line cs shown = line_after (quoted_all cs) (codes "]" ++ 10 ∷ []) (quoted_all_lack cs shown) refl
 
 -- ---- the lines of a block after its fields
 
@@ -132,9 +132,9 @@ lines_joined v t op e =
     let listed = constraints_comment (constraints_of t e) in
     let control = on_control t (codes "Polymorphic over ") e.typeset_offset in
     let second = on_second v t e in
-    let behind = flat_map-append (λ line. line) control (second ++ ends)
+    let after = flat_map-append (λ line. line) control (second ++ ends)
     ∙ ap (λ w. flat_map (λ line. line) control ++ w) (flat_map-append (λ line. line) second ends) in
-    ap (λ w. flags ++ (listed ++ w)) (behind
+    ap (λ w. flags ++ (listed ++ w)) (after
     ∙ (λ i. on_control_joined t (codes "Polymorphic over ") e.typeset_offset i
     ++ (on_second_joined v t e i ++ flat_map (λ line. line) ends)))
     ∙ sym (grouped flags listed (control_comment t (codes "Polymorphic over ") e.typeset_offset) (second_comment v t e)
@@ -164,8 +164,8 @@ lines_count v t op e =
     let one = on_control_count t (codes "Polymorphic over ") e.typeset_offset in
     let two = on_second_count v t e in
     let all = length-append control (second ++ ends) in
-    let behind = length-append second ends in
-    omega (arith, one, two, all, behind)
+    let after = length-append second ends in
+    omega (arith, one, two, all, after)
 
 -- and each is a line
 on_control_lines : (t : TableContents) (about : List ℕ) (offset : ℕ) → HasNoEnd about → list_all is_line (on_control t about offset) ≡ true
@@ -191,8 +191,8 @@ lines_are v t op e named shown =
     let listed = constraints_line (constraints_of t e) some in
     let control = on_control t (codes "Polymorphic over ") e.typeset_offset in
     let second = on_second v t e in
-    let behind = list_all-append is_line second ends ∙ (λ i. on_second_lines v t e i && true) in
+    let after = list_all-append is_line second ends ∙ (λ i. on_second_lines v t e i && true) in
     let comments = list_all-append is_line control (second ++ ends)
-    ∙ (λ i. on_control_lines t (codes "Polymorphic over ") e.typeset_offset refl i && behind i) in
+    ∙ (λ i. on_control_lines t (codes "Polymorphic over ") e.typeset_offset refl i && after i) in
     are_lines (block_lines v t op e) (and_from (is_line (flags_comment (camel_at t op) e.flags)) _ flags
     (and_from (is_line (constraints_comment (constraints_of t e))) _ listed comments))

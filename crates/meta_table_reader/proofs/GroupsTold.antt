@@ -19,7 +19,7 @@ use Rattle.meta_setting_tables.specs.WellFormed.{is_preset}
 use Rattle.meta_table_text.specs.GroupText.{enumerators_text, descriptors_text, slots_text, presets_in, preset_text, presets_text}
 use Rattle.meta_table_text.specs.GroupText.{group_text}
 use Rattle.meta_table_reader.proofs.Cancel.{cancel_front, cancel_item, cancel_line, cancel_lines, cancel_items}
-use Rattle.meta_table_reader.proofs.ItemsRead.{all_first, all_behind}
+use Rattle.meta_table_reader.proofs.ItemsRead.{all_first, all_after}
 use Rattle.meta_table_reader.specs.ShownGroup.{IsShownDescriptor, IsByte, AreShownMasksOf, AreShownPresets, AreShownGroup}
 use Rattle.meta_table_reader.proofs.Heads.{list_told}
 use Rattle.meta_table_reader.proofs.NameBytes.{name_lacks_dot}
@@ -27,8 +27,8 @@ use Rattle.meta_table_reader.proofs.EntryBlocks.{glyph_told, hex_told}
 use Rattle.meta_table_reader.proofs.DescriptorBlocks.{enumerator_told, descriptor_told}
 use Rattle.meta_table_reader.proofs.GroupLines.{slots_are_lines, comment_is_line, preset_parts}
 use Rattle.meta_table_reader.proofs.Presets.{size_cases}
-use Rattle.meta_table_reader.proofs.ShownBytes.{comma_behind, without_comma, bytes_lack}
-use Rattle.meta_table_reader.proofs.TemplateLines.{template_lines, template_lines_are, before_defaults, behind_defaults, template_opened}
+use Rattle.meta_table_reader.proofs.ShownBytes.{comma_after, without_comma, bytes_lack}
+use Rattle.meta_table_reader.proofs.TemplateLines.{template_lines, template_lines_are, before_defaults, after_defaults, template_opened}
 
 -- ---- lists of names, of entries and of slots
 
@@ -103,18 +103,18 @@ masks_told booleans (d ∷ ds) size ms ns r s all shown one other e =
     let is = all_first IsShownDescriptor d ds shown in
     let have = all_first (AreShownMasksOf size ms) d ds one in
     let have_too = all_first (AreShownMasksOf size ns) d ds other in
-    let behind = flat_map text ds ++ r in
-    let behind_too = flat_map text_too ds ++ s in
+    let after = flat_map text ds ++ r in
+    let after_too = flat_map text_too ds ++ s in
     let comment = comment_text d.name (texts_with_commas (names_on booleans mine)) in
     let comment_too = comment_text d.name (texts_with_commas (names_on booleans its)) in
-    let parted = sym (append_assoc (text d) (flat_map text ds) r ∙ preset_parts booleans size ms d behind) ∙ e
-    ∙ append_assoc (text_too d) (flat_map text_too ds) s ∙ preset_parts booleans size ns d behind_too in
-    let (here, a) = cancel_items IsByte pair_text pair_told mine its (comment ++ behind)
-    (comment_too ++ behind_too) have.bytes have_too.bytes (have.count ∙ sym have_too.count) parted in
-    let b = cancel_line comment comment_too behind behind_too (comment_is_line booleans mine d all is)
+    let parted = sym (append_assoc (text d) (flat_map text ds) r ∙ preset_parts booleans size ms d after) ∙ e
+    ∙ append_assoc (text_too d) (flat_map text_too ds) s ∙ preset_parts booleans size ns d after_too in
+    let (here, a) = cancel_items IsByte pair_text pair_told mine its (comment ++ after)
+    (comment_too ++ after_too) have.bytes have_too.bytes (have.count ∙ sym have_too.count) parted in
+    let b = cancel_line comment comment_too after after_too (comment_is_line booleans mine d all is)
     (comment_is_line booleans its d all is) a in
-    let (more, left) = masks_told booleans ds size ms ns r s all (all_behind IsShownDescriptor d ds shown)
-    (all_behind (AreShownMasksOf size ms) d ds one) (all_behind (AreShownMasksOf size ns) d ds other) b in
+    let (more, left) = masks_told booleans ds size ms ns r s all (all_after IsShownDescriptor d ds shown)
+    (all_after (AreShownMasksOf size ms) d ds one) (all_after (AreShownMasksOf size ns) d ds other) b in
     ((λ i. here i ++ more i), left)
 
 presets_told : (ds : List Descriptor) (size other_size : ℕ) (ms ns r s : List ℕ) → All IsShownDescriptor ds → AreShownPresets ds size ms
@@ -152,21 +152,21 @@ bytes_told [] [] one other e = refl
 bytes_told [] (c ∷ cs) one other e = absurd (cc)
 bytes_told (b ∷ bs) [] one other e = absurd (cc)
 bytes_told (b ∷ bs) (c ∷ cs) one other e =
-    let (here, left) = hex_told b c (comma_behind bs) (comma_behind cs) (all_first IsByte b bs one) (all_first IsByte c cs other)
+    let (here, left) = hex_told b c (comma_after bs) (comma_after cs) (all_first IsByte b bs one) (all_first IsByte c cs other)
     (cancel_front (codes "0x") _ _ e) in
-    let more = bytes_told bs cs (all_behind IsByte b bs one) (all_behind IsByte c cs other) (sym (without_comma bs) ∙ ap (drop 2) left
+    let more = bytes_told bs cs (all_after IsByte b bs one) (all_after IsByte c cs other) (sym (without_comma bs) ∙ ap (drop 2) left
     ∙ without_comma cs) in
     (λ i. here i ∷ more i)
 
 defaults_told : (m n bs cs r s : List ℕ) → IsName m → IsName n → All IsByte bs → All IsByte cs
     → template_text m (bytes_text bs) ++ r ≡ template_text n (bytes_text cs) ++ s → (bs ≡ cs) × (r ≡ s)
 defaults_told m n bs cs r s is_m is_n one other e =
-    let a = cancel_lines (template_lines m) (template_lines n) (before_defaults ++ (bytes_text bs ++ (behind_defaults ++ r)))
-    (before_defaults ++ (bytes_text cs ++ (behind_defaults ++ s))) (template_lines_are m is_m) (template_lines_are n is_n) refl
+    let a = cancel_lines (template_lines m) (template_lines n) (before_defaults ++ (bytes_text bs ++ (after_defaults ++ r)))
+    (before_defaults ++ (bytes_text cs ++ (after_defaults ++ s))) (template_lines_are m is_m) (template_lines_are n is_n) refl
     (sym (template_opened m (bytes_text bs) r) ∙ e ∙ template_opened n (bytes_text cs) s) in
-    let (same, left) = cancel_item 93 (bytes_text bs) (bytes_text cs) (behind_defaults ++ r) (behind_defaults ++ s) (bytes_lack bs one)
+    let (same, left) = cancel_item 93 (bytes_text bs) (bytes_text cs) (after_defaults ++ r) (after_defaults ++ s) (bytes_lack bs one)
     (bytes_lack cs other) refl refl (cancel_front before_defaults _ _ a) in
-    (bytes_told bs cs one other same, cancel_front behind_defaults r s left)
+    (bytes_told bs cs one other same, cancel_front after_defaults r s left)
 
 -- ---- groups
 
@@ -243,4 +243,4 @@ groups_told (g ∷ gs) [] one other e = absurd (no_group g (flat_map group_text 
 groups_told (g ∷ gs) (h ∷ hs) one other e =
     let (here, left) = group_told g h (flat_map group_text gs) (flat_map group_text hs) (all_first AreShownGroup g gs one)
     (all_first AreShownGroup h hs other) e in
-    (here, groups_told gs hs (all_behind AreShownGroup g gs one) (all_behind AreShownGroup h hs other) left)
+    (here, groups_told gs hs (all_after AreShownGroup g gs one) (all_after AreShownGroup h hs other) left)

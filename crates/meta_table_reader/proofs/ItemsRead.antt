@@ -40,18 +40,18 @@ front text items rest left i x at e = e ∙ ap (λ xs. flat_map text xs ++ rest)
 
 -- one more is
 pub one_more_read : {X : Type 0} (text : X → List ℕ) (items : List X) (rest : List ℕ) (i : ℕ) (x y : X)
-    (got more : List X) (left behind : List ℕ)
+    (got more : List X) (left after : List ℕ)
     → At items i x → AreRead text items rest i got left → more ≡ got ++ y ∷ [] → y ≡ x
-    → behind ≡ flat_map text (drop (i + 1) items) ++ rest → AreRead text items rest (i + 1) more behind
-one_more_read text items rest i x y got more left behind at read pushed same e =
+    → after ≡ flat_map text (drop (i + 1) items) ++ rest → AreRead text items rest (i + 1) more after
+one_more_read text items rest i x y got more left after at read pushed same e =
     record { got = pushed ∙ (λ k. read.got k ++ same k ∷ []) ∙ sym at.taken; left = e }
 
 -- what all have, the first has, and so have those after it
 pub all_first : {X : Type 0} (P : X → Type 0) (x : X) (xs : List X) → All P (x ∷ xs) → P x
 all_first P x xs all = all 0 x (omega arith)
 
-pub all_behind : {X : Type 0} (P : X → Type 0) (x : X) (xs : List X) → All P (x ∷ xs) → All P xs
-all_behind P x xs all = λ k d within. all (suc k) d (omega (arith, within))
+pub all_after : {X : Type 0} (P : X → Type 0) (x : X) (xs : List X) → All P (x ∷ xs) → All P xs
+all_after P x xs all = λ k d within. all (suc k) d (omega (arith, within))
 
 -- nothing is left but the rest
 pub only_rest_left : {X : Type 0} (text : X → List ℕ) (items : List X) (rest : List ℕ) (i : ℕ) (left : List ℕ)
@@ -68,7 +68,7 @@ pub few_items : {X : Type 0} (text : X → List ℕ) (items : List X) → All (�
     → (rest : List ℕ) → length items ≤ length (flat_map text items ++ rest)
 few_items text [] some rest = omega arith
 few_items text (x ∷ items) some rest =
-    let more = few_items text items (all_behind (λ x. 1 ≤ length (text x)) x items some) rest in
+    let more = few_items text items (all_after (λ x. 1 ≤ length (text x)) x items some) rest in
     let here : 1 ≤ length (text x) = all_first (λ x. 1 ≤ length (text x)) x items some in
     let both = length-append (text x) (flat_map text items ++ rest) in
     let regrouped = ap length (append_assoc (text x) (flat_map text items) rest) in

@@ -10,27 +10,27 @@ use Rattle.std.specs.Char.{is_ascii_digit}
 use Rattle.std.specs.Fmt.{decimal, digits, digits_onto, digit_glyph}
 use Rattle.std.specs.Str.{IsAscii}
 use Rattle.meta_table_reader.specs.Spans.{lacks, is_line, is_nothing}
-use Rattle.meta_table_reader.proofs.ItemsRead.{all_first, all_behind}
+use Rattle.meta_table_reader.proofs.ItemsRead.{all_first, all_after}
 
 -- what lacks the byte, and more that lacks it
-pub both_lack : (stop : ℕ) (front behind : List ℕ) → lacks stop front ≡ true → lacks stop behind ≡ true
-    → lacks stop (front ++ behind) ≡ true
-both_lack stop front behind f b = list_all-append (λ c. not (c == stop)) front behind ∙ (λ i. f i && b i)
+pub both_lack : (stop : ℕ) (front after : List ℕ) → lacks stop front ≡ true → lacks stop after ≡ true
+    → lacks stop (front ++ after) ≡ true
+both_lack stop front after f b = list_all-append (λ c. not (c == stop)) front after ∙ (λ i. f i && b i)
 
 -- a text without an LF and then the end of a line are a line
-pub line_behind : (front behind : List ℕ) → lacks 10 front ≡ true → is_line behind ≡ true → is_line (front ++ behind) ≡ true
-line_behind [] behind free is = is
-line_behind (c ∷ front) behind free is = by_test (c == 10) free (λ free. line_behind front behind free is)
+pub line_after : (front after : List ℕ) → lacks 10 front ≡ true → is_line after ≡ true → is_line (front ++ after) ≡ true
+line_after [] after free is = is
+line_after (c ∷ front) after free is = by_test (c == 10) free (λ free. line_after front after free is)
   where
-    by_test : (b : Bool) → (not b && lacks 10 front) ≡ true → (lacks 10 front ≡ true → is_line (front ++ behind) ≡ true)
-        → cond b (is_nothing (front ++ behind)) (is_line (front ++ behind)) ≡ true
+    by_test : (b : Bool) → (not b && lacks 10 front) ≡ true → (lacks 10 front ≡ true → is_line (front ++ after) ≡ true)
+        → cond b (is_nothing (front ++ after)) (is_line (front ++ after)) ≡ true
     by_test true free below = absurd (cc)
     by_test false free below = below free
 
 -- a byte that none of the bytes can be
 pub lacks_by : (P : ℕ → Type 0) (stop : ℕ) → ((c : ℕ) → P c → c ≡ stop → ⊥) → (text : List ℕ) → All P text → lacks stop text ≡ true
 lacks_by P stop never [] all = refl
-lacks_by P stop never (c ∷ text) all = by_test (c == stop) refl (lacks_by P stop never text (all_behind P c text all))
+lacks_by P stop never (c ∷ text) all = by_test (c == stop) refl (lacks_by P stop never text (all_after P c text all))
   where
     by_test : (b : Bool) → (c == stop) ≡ b → lacks stop text ≡ true → (not b && lacks stop text) ≡ true
     by_test true is below = absurd (never c (all_first P c text all) (eqb-true c stop is))
@@ -51,18 +51,18 @@ digit_other stop d other small = by_test (digit_glyph false d == stop) refl
     by_test false is = refl
     by_test true is = absurd (false≢true (sym other ∙ ap is_ascii_digit (sym (eqb-true (digit_glyph false d) stop is)) ∙ is_digit))
 
-digits_lack : (stop fuel n : ℕ) (behind : List ℕ) → is_ascii_digit stop ≡ false → lacks stop behind ≡ true
-    → lacks stop (digits_onto fuel 10 false n behind) ≡ true
-digits_lack stop zero n behind other free = free
-digits_lack stop (suc fuel) n behind other free =
-    by_test (n / 10 == 0) (digits_lack stop fuel (n / 10) (digit_glyph false (n % 10) ∷ behind) other more)
+digits_lack : (stop fuel n : ℕ) (after : List ℕ) → is_ascii_digit stop ≡ false → lacks stop after ≡ true
+    → lacks stop (digits_onto fuel 10 false n after) ≡ true
+digits_lack stop zero n after other free = free
+digits_lack stop (suc fuel) n after other free =
+    by_test (n / 10 == 0) (digits_lack stop fuel (n / 10) (digit_glyph false (n % 10) ∷ after) other more)
   where
-    more : lacks stop (digit_glyph false (n % 10) ∷ behind) ≡ true
+    more : lacks stop (digit_glyph false (n % 10) ∷ after) ≡ true
     more = (λ i. not (digit_other stop (n % 10) other (omega arith) i) && free i)
 
-    by_test : (b : Bool) → lacks stop (digits_onto fuel 10 false (n / 10) (digit_glyph false (n % 10) ∷ behind)) ≡ true
-        → lacks stop (cond b (digit_glyph false (n % 10) ∷ behind)
-        (digits_onto fuel 10 false (n / 10) (digit_glyph false (n % 10) ∷ behind))) ≡ true
+    by_test : (b : Bool) → lacks stop (digits_onto fuel 10 false (n / 10) (digit_glyph false (n % 10) ∷ after)) ≡ true
+        → lacks stop (cond b (digit_glyph false (n % 10) ∷ after)
+        (digits_onto fuel 10 false (n / 10) (digit_glyph false (n % 10) ∷ after))) ≡ true
     by_test true above = more
     by_test false above = above
 

@@ -8,7 +8,7 @@ use Rattle.meta_types.specs.CamelCase.{capital_at, camel_from, camel_case_of}
 use Rattle.meta_settings.specs.GroupFaults.{IsPlainByte}
 use Rattle.meta_table_reader.specs.Spans.{lacks}
 use Rattle.meta_table_reader.proofs.Lacking.{lacks_by, ascii_by}
-use Rattle.meta_table_reader.proofs.ItemsRead.{all_first, all_behind}
+use Rattle.meta_table_reader.proofs.ItemsRead.{all_first, all_after}
 
 -- each byte of a name is one that a name may have
 pub all_name_bytes : (name : List ℕ) → IsName name → All IsNameByte name
@@ -54,7 +54,7 @@ capital_no_end false c is = grind (arith, nat_tests)
 camel_lacks : (up : Bool) (name : List ℕ) → All IsNameByte name → lacks 10 (camel_from up name) ≡ true
 camel_lacks up [] all = refl
 camel_lacks up (c ∷ cs) all =
-    by_test (c == 95) (camel_lacks true cs (all_behind IsNameByte c cs all)) (camel_lacks false cs (all_behind IsNameByte c cs all))
+    by_test (c == 95) (camel_lacks true cs (all_after IsNameByte c cs all)) (camel_lacks false cs (all_after IsNameByte c cs all))
   where
     by_test : (b : Bool) → lacks 10 (camel_from true cs) ≡ true → lacks 10 (camel_from false cs) ≡ true
         → lacks 10 (cond b (camel_from true cs) (capital_at up c ∷ camel_from false cs)) ≡ true

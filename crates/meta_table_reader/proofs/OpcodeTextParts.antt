@@ -16,7 +16,7 @@ use Rattle.meta_table_text.specs.ConstraintText.{constraint_line}
 use Rattle.meta_table_text.specs.OpcodeText.{camel_at, slot_line}
 use Rattle.meta_table_text.specs.TableText.{version_line, sets_list, sets_part, constraints_part}
 use Rattle.meta_table_reader.specs.Spans.{is_line}
-use Rattle.meta_table_reader.proofs.Lacking.{line_behind}
+use Rattle.meta_table_reader.proofs.Lacking.{line_after}
 use Rattle.meta_table_reader.specs.Shown.{IsShownConstraint}
 use Rattle.meta_table_reader.proofs.EntryComments.{camel_lacks}
 use Rattle.meta_gen.proofs.Sameness.{constraint_from, number_constraint_back}
@@ -66,7 +66,7 @@ one_digit Three w e = is_three w (λ f. omega (arith, e, f)) (λ f. omega (arith
 slot_is_line : (t : TableContents) → All IsName t.names → (slot : Option ℕ) → is_line (slot_line t slot) ≡ true
 unfolding slot_line
 slot_is_line t named None = refl
-slot_is_line t named (Some op) = line_behind (camel_at t op) (codes ")," ++ 10 ∷ []) (camel_lacks t op named) refl
+slot_is_line t named (Some op) = line_after (camel_at t op) (codes ")," ++ 10 ∷ []) (camel_lacks t op named) refl
 
 pub slots_are_lines : (t : TableContents) → All IsName t.names → (slots : List (Option ℕ))
     → All (λ line. IsTrue (is_line line)) (map (slot_line t) slots)

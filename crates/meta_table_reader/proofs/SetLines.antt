@@ -6,30 +6,30 @@ use Rattle.std.specs.Fmt.{decimal}
 use Rattle.std.proofs.lemmas.Bool.{and_parts, and_from, ltb-true}
 use Rattle.std.proofs.lemmas.List.Elements.{All-nil, All-cons, All-map, All-filter, All-weaker}
 use Rattle.meta_typevar.specs.declared.masks.Masks.{Masks}
-use Rattle.meta_table_text.specs.TypeSetText.{parted_behind, powers, held, members, part_of, masks_text, set_or_nothing, set_comment}
+use Rattle.meta_table_text.specs.TypeSetText.{parted_after, powers, held, members, part_of, masks_text, set_or_nothing, set_comment}
 use Rattle.meta_table_reader.specs.Spans.{lacks, is_line}
 use Rattle.meta_table_reader.proofs.Ends.{number_lacks}
-use Rattle.meta_table_reader.proofs.Lacking.{both_lack, line_behind}
-use Rattle.meta_table_reader.proofs.ItemsRead.{all_first, all_behind}
+use Rattle.meta_table_reader.proofs.Lacking.{both_lack, line_after}
+use Rattle.meta_table_reader.proofs.ItemsRead.{all_first, all_after}
 
 -- no LF stands in the text
 abbrev pub HasNoEnd : List ℕ → Type 0
 HasNoEnd text = lacks 10 text ≡ true
 
 -- texts that are parted by commas have no LF where none of them has
-pub parted_lacks : (before : List ℕ) (texts : List (List ℕ)) → HasNoEnd before → All HasNoEnd texts → HasNoEnd (parted_behind before texts)
+pub parted_lacks : (before : List ℕ) (texts : List (List ℕ)) → HasNoEnd before → All HasNoEnd texts → HasNoEnd (parted_after before texts)
 parted_lacks before [] free all = refl
 parted_lacks before (text ∷ texts) free all =
-    both_lack 10 before (text ++ parted_behind (codes ", ") texts) free
-    (both_lack 10 text (parted_behind (codes ", ") texts) (all_first HasNoEnd text texts all)
-    (parted_lacks (codes ", ") texts refl (all_behind HasNoEnd text texts all)))
+    both_lack 10 before (text ++ parted_after (codes ", ") texts) free
+    (both_lack 10 text (parted_after (codes ", ") texts) (all_first HasNoEnd text texts all)
+    (parted_lacks (codes ", ") texts refl (all_after HasNoEnd text texts all)))
 
 -- numbers that pass their test are small
 all_small : (ns : List ℕ) → list_all (λ n. ltb n (2 ^ 64)) ns ≡ true → All (λ n. n < 2 ^ 64) ns
 all_small [] e = All-nil (λ n. n < 2 ^ 64)
 all_small (n ∷ ns) e =
-    let (here, behind) = and_parts (ltb n (2 ^ 64)) (list_all (λ n. ltb n (2 ^ 64)) ns) e in
-    All-cons (λ n. n < 2 ^ 64) n ns (ltb-true n (2 ^ 64) here) (all_small ns behind)
+    let (here, after) = and_parts (ltb n (2 ^ 64)) (list_all (λ n. ltb n (2 ^ 64)) ns) e in
+    All-cons (λ n. n < 2 ^ 64) n ns (ltb-true n (2 ^ 64) here) (all_small ns after)
 
 members_lack : (mask : ℕ) → HasNoEnd (members mask)
 unfolding members
@@ -63,14 +63,14 @@ set_or_nothing_lacks (Some m) = set_text_lacks m
 -- a comment on a set is a line
 pub set_comment_line : (about set : List ℕ) → HasNoEnd about → HasNoEnd set → is_line (set_comment about set) ≡ true
 unfolding set_comment
-set_comment_line about set free_about free_set = line_behind about (set ++ 10 ∷ []) free_about (line_behind set (10 ∷ []) free_set refl)
+set_comment_line about set free_about free_set = line_after about (set ++ 10 ∷ []) free_about (line_after set (10 ∷ []) free_set refl)
 
 -- lines that pass their test
 pub are_lines : (lines : List (List ℕ)) → list_all is_line lines ≡ true → All (λ line. IsTrue (is_line line)) lines
 are_lines [] e = All-nil (λ line. IsTrue (is_line line))
 are_lines (line ∷ lines) e =
-    let (here, behind) = and_parts (is_line line) (list_all is_line lines) e in
-    All-cons (λ line. IsTrue (is_line line)) line lines here (are_lines lines behind)
+    let (here, after) = and_parts (is_line line) (list_all is_line lines) e in
+    All-cons (λ line. IsTrue (is_line line)) line lines here (are_lines lines after)
 
 -- the lines at the end of the block of a set
 pub set_lines : (m : Masks) → All (λ line. IsTrue (is_line line))

@@ -38,8 +38,8 @@ StandsAt settings size e d = (e < settings) ⊎ StandsAtMasks settings size e d.
 
 placed_apart : (own booleans size e : ℕ) (d : Descriptor) (k : Detail) → IsPlaced own booleans size e d.offset k
     → ((is_preset k ≡ false) × (e < own + booleans)) ⊎ ((is_preset k ≡ true) × StandsAtMasks (own + booleans) size e d.offset)
-placed_apart own booleans size e d (ABool bit) is = let within = is.within in let behind = is.behind
-    in inl (refl, omega (arith, within, behind))
+placed_apart own booleans size e d (ABool bit) is = let within = is.within in let after = is.after
+    in inl (refl, omega (arith, within, after))
 placed_apart own booleans size e d (AnEnum last enumerators) is = let first = is.first in inl (refl, omega (arith, first))
 placed_apart own booleans size e d ANum is = let first = is.first in inl (refl, omega (arith, first))
 placed_apart own booleans size e d Preset is = inr (refl, is)
@@ -59,13 +59,13 @@ module _ (settings size : ℕ) (masks : List ℕ) where
   joined_from e [] each long =
       sym (drop_all ((e - settings) * size) masks (subst (λ n. length masks ≤ (n - settings) * size) (omega arith) long))
   joined_from e (d ∷ ds) each long =
-      by_kind (is_preset d.detail) refl (joined_from (suc e) ds behind (subst (λ n. length masks ≤ (n - settings) * size) next long))
+      by_kind (is_preset d.detail) refl (joined_from (suc e) ds after (subst (λ n. length masks ≤ (n - settings) * size) next long))
     where
       next : e + length (d ∷ ds) ≡ suc e + length ds
       next = omega arith
 
-      behind : (k : ℕ) (x : Descriptor) → slice_get ds k ≡ Some x → Apart (suc e + k) x
-      behind k x there = let next : e + suc k ≡ suc e + k = omega arith in subst (λ n. Apart n x) next (each (suc k) x there)
+      after : (k : ℕ) (x : Descriptor) → slice_get ds k ≡ Some x → Apart (suc e + k) x
+      after k x there = let next : e + suc k ≡ suc e + k = omega arith in subst (λ n. Apart n x) next (each (suc k) x there)
 
       here : Apart e d
       here = let first : e + 0 ≡ e = omega arith in subst (λ n. Apart n d) first (each 0 d refl)
@@ -79,9 +79,9 @@ module _ (settings size : ℕ) (masks : List ℕ) where
           of_preset : Apart e d → own d ++ flat_map own (filter (λ d. is_preset d.detail) ds) ≡ drop ((e - settings) * size) masks
           of_preset (inl (other, within)) = absurd (cc)
           of_preset (inr (same, at)) =
-              let number : e - settings ≡ at.number = let behind = at.behind in omega (arith, behind) in
+              let number : e - settings ≡ at.number = let after = at.after in omega (arith, after) in
               let next : (suc e - settings) * size ≡ at.number * size + size =
-              ap (λ n. n * size) (let behind = at.behind in let n : suc e - settings ≡ suc at.number = omega (arith, behind) in n)
+              ap (λ n. n * size) (let after = at.after in let n : suc e - settings ≡ suc at.number = omega (arith, after) in n)
               ∙ (omega arith) in
               (λ i. take size (drop (at.offset_is i) masks) ++ (below ∙ ap (λ n. drop n masks) next
               ∙ sym (drop-drop size (at.number * size) masks)) i)
@@ -102,13 +102,13 @@ module _ (settings size : ℕ) (masks : List ℕ) where
       → All (AreShownMasksOf size masks) (filter (λ d. is_preset d.detail) ds)
   own_masks e [] each long bytes = All-nil (AreShownMasksOf size masks)
   own_masks e (d ∷ ds) each long bytes =
-      by_kind (is_preset d.detail) refl (own_masks (suc e) ds behind (subst (λ n. (n - settings) * size ≤ length masks) next long) bytes)
+      by_kind (is_preset d.detail) refl (own_masks (suc e) ds after (subst (λ n. (n - settings) * size ≤ length masks) next long) bytes)
     where
       next : e + length (d ∷ ds) ≡ suc e + length ds
       next = omega arith
 
-      behind : (k : ℕ) (x : Descriptor) → slice_get ds k ≡ Some x → Apart (suc e + k) x
-      behind k x there = let next : e + suc k ≡ suc e + k = omega arith in subst (λ n. Apart n x) next (each (suc k) x there)
+      after : (k : ℕ) (x : Descriptor) → slice_get ds k ≡ Some x → Apart (suc e + k) x
+      after k x there = let next : e + suc k ≡ suc e + k = omega arith in subst (λ n. Apart n x) next (each (suc k) x there)
 
       here : Apart e d
       here = let first : e + 0 ≡ e = omega arith in subst (λ n. Apart n d) first (each 0 d refl)
@@ -120,7 +120,7 @@ module _ (settings size : ℕ) (masks : List ℕ) where
           of_preset : Apart e d → AreShownMasksOf size masks d
           of_preset (inl (other, within)) = absurd (cc)
           of_preset (inr (same, at)) =
-              let before : suc at.number ≤ e + length (d ∷ ds) - settings = let behind = at.behind in omega (arith, behind) in
+              let before : suc at.number ≤ e + length (d ∷ ds) - settings = let after = at.after in omega (arith, after) in
               let room = mul-le (suc at.number) size (e + length (d ∷ ds) - settings) size before (omega arith) in
               let enough : size ≤ length (drop d.offset masks) = let is = at.offset_is in let len = length-drop d.offset masks
               in omega (arith, is, len, room, long) in
@@ -161,8 +161,8 @@ offset_small own booleans size e offset (ABool bit) few sized within is = let by
 offset_small own booleans size e offset (AnEnum last place) few sized within is = let byte = is.byte_is in omega (arith, byte, within)
 offset_small own booleans size e offset ANum few sized within is = let byte = is.byte_is in omega (arith, byte, within)
 offset_small own booleans size e offset Preset few sized within is =
-    let behind = is.behind in
-    let product = mul-le is.number size 65535 255 (omega (arith, behind, within)) sized in
+    let after = is.after in
+    let product = mul-le is.number size 65535 255 (omega (arith, after, within)) sized in
     let at = is.offset_is in
     omega (arith, product, at)
 

@@ -14,7 +14,7 @@ use Rattle.meta_table_text.specs.Fits.{Fits}
 use Rattle.meta_table_text.specs.GroupText.{group_text}
 use Rattle.meta_table_text.specs.TableText.{version_line, formats_part, slots_part, sets_part, constraints_part, entries_part, opcodes_text}
 use Rattle.meta_table_text.specs.TableText.{table_text}
-use Rattle.meta_table_reader.proofs.ItemsRead.{all_first, all_behind}
+use Rattle.meta_table_reader.proofs.ItemsRead.{all_first, all_after}
 use Rattle.meta_table_reader.specs.Readable.{Reads}
 use Rattle.meta_table_reader.proofs.ShownTables.{tables_shown}
 use Rattle.meta_table_reader.proofs.OpcodeTextParts.{digit, digit_at, one_digit}
@@ -54,7 +54,7 @@ same_groups [] (h ∷ hs) one other same = absurd same
 same_groups (g ∷ gs) [] one other same = absurd same
 same_groups (g ∷ gs) (h ∷ hs) one other (here, same) =
     let first = same_group g h (all_first IsWellFormedGroup g gs one) (all_first IsWellFormedGroup h hs other) here in
-    let more = same_groups gs hs (all_behind IsWellFormedGroup g gs one) (all_behind IsWellFormedGroup h hs other) same in
+    let more = same_groups gs hs (all_after IsWellFormedGroup g gs one) (all_after IsWellFormedGroup h hs other) same in
     (λ i. first i ∷ more i)
 
 -- in one version

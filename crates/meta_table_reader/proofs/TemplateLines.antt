@@ -5,7 +5,7 @@ use Rattle.std.proofs.lemmas.Bool.{and_from}
 use Rattle.meta_types.specs.Name.{IsName}
 use Rattle.meta_table_text.specs.GroupItems.{template_text}
 use Rattle.meta_table_reader.specs.Spans.{is_line}
-use Rattle.meta_table_reader.proofs.Lacking.{line_behind}
+use Rattle.meta_table_reader.proofs.Lacking.{line_after}
 use Rattle.meta_table_reader.proofs.SetLines.{are_lines}
 use Rattle.meta_table_reader.proofs.NameBytes.{name_lacks_end}
 
@@ -27,24 +27,24 @@ template_lines name = codes "static TEMPLATE: detail::Template = detail::Templat
 pub template_lines_are : (name : List ℕ) → IsName name → All (λ line. IsTrue (is_line line)) (template_lines name)
 template_lines_are name is =
     are_lines (template_lines name)
-    (and_from (is_line (name_line name)) true (line_behind name (codes "\",\n") (name_lacks_end name is) refl) refl)
+    (and_from (is_line (name_line name)) true (line_after name (codes "\",\n") (name_lacks_end name is) refl) refl)
 
 -- what stands before the default bytes, and after them
 abbrev pub before_defaults : List ℕ
 before_defaults = codes "    defaults: &["
 
-abbrev pub behind_defaults : List ℕ
-behind_defaults = codes "],\n    presets: &PRESETS,\n}\n;\n"
+abbrev pub after_defaults : List ℕ
+after_defaults = codes "],\n    presets: &PRESETS,\n}\n;\n"
 
 -- the template, and then the rest
 pub template_opened : (name shown rest : List ℕ)
     → template_text name shown ++ rest ≡ flat_map (λ line. line) (template_lines name)
-    ++ (before_defaults ++ (shown ++ (behind_defaults ++ rest)))
+    ++ (before_defaults ++ (shown ++ (after_defaults ++ rest)))
 unfolding template_text
 template_opened name shown rest =
     let head : List ℕ → List ℕ = λ w. codes "static TEMPLATE: detail::Template = detail::Template {\n    name: \"" ++ w in
     let middle : List ℕ = codes "    descriptors: &DESCRIPTORS,\n    enumerators: &ENUMERATORS,\n    hash_table: &HASH_TABLE,\n" in
     ap head (regroup name (codes
     "\",\n    descriptors: &DESCRIPTORS,\n    enumerators: &ENUMERATORS,\n    hash_table: &HASH_TABLE,\n    defaults: &[") shown
-    behind_defaults rest)
-    ∙ ap head (sym (regroup_lines name (codes "\",\n") middle (before_defaults ++ (shown ++ (behind_defaults ++ rest)))))
+    after_defaults rest)
+    ∙ ap head (sym (regroup_lines name (codes "\",\n") middle (before_defaults ++ (shown ++ (after_defaults ++ rest)))))

@@ -3,7 +3,7 @@
 --     begins_with stop rest  the rest begins with the byte
 --     is_line text           the text is one line, with its end
 --     from_byte stop text    what a text has from the first such byte on
---     behind_lines n text    what a text has after n lines
+--     after_lines n text    what a text has after n lines
 use Rattle.std.specs.Prelude.{ℕ, zero, suc, ◌==◌, Bool, true, false, List, [], ◌∷◌, drop, if◌then◌else◌, not}
 use Rattle.std.specs.List.{list_all, position_or_len}
 
@@ -31,10 +31,10 @@ abbrev pub from_byte : ℕ → List ℕ → List ℕ
 from_byte stop text = drop (position_or_len (λ c. c == stop) text) text
 
 -- what a text has after its first LF, and nothing if it has no LF
-abbrev pub behind_line : List ℕ → List ℕ
-behind_line text = drop 1 (from_byte 10 text)
+abbrev pub after_line : List ℕ → List ℕ
+after_line text = drop 1 (from_byte 10 text)
 
 -- what a text has after n LFs
-abbrev pub behind_lines : ℕ → List ℕ → List ℕ
-behind_lines zero text = text
-behind_lines (suc count) text = behind_lines count (behind_line text)
+abbrev pub after_lines : ℕ → List ℕ → List ℕ
+after_lines zero text = text
+after_lines (suc count) text = after_lines count (after_line text)

@@ -4,7 +4,7 @@ ghost use Rattle.std.specs.Char.{is_ascii_digit};
 ghost use Rattle.std.specs.Fmt.{decimal, digit_glyph};
 ghost use Rattle.std.specs.List.{flat_map};
 ghost use Rattle.std.specs.Str.{IsAscii, IsUtf8};
-ghost use Rattle.meta_table_reader.specs.Spans.{lacks, begins_with, is_line, from_byte, behind_line, behind_lines};
+ghost use Rattle.meta_table_reader.specs.Spans.{lacks, begins_with, is_line, from_byte, after_line, after_lines};
 
 use meta_lines::{end_of, number_in};
 use meta_types::Text;
@@ -208,7 +208,7 @@ impl<'t> Cursor<'t> {
     /// Skips the next line, including its LF.
     pub(crate) fn skip_line(&mut self)
         ensures item { (line rest : List ℕ) → IsTrue (is_line line) → self.old ≡ line ++ rest → self.new ≡ rest }
-        ensures left { self.new ≡ behind_line self.old }
+        ensures left { self.new ≡ after_line self.old }
     {
         let end = end_of(self.left, b'\n');
         self.skip(end);
@@ -219,7 +219,7 @@ impl<'t> Cursor<'t> {
     pub(crate) fn skip_lines(&mut self, count: usize)
         ensures item { (lines : List (List ℕ)) (rest : List ℕ) → All (λ line. IsTrue (is_line line)) lines → count ≡ length lines
             → self.old ≡ flat_map (λ line. line) lines ++ rest → self.new ≡ rest }
-        ensures left { self.new ≡ behind_lines count self.old }
+        ensures left { self.new ≡ after_lines count self.old }
     {
         for _ in 0..self.len().min(count) {
             self.skip_line();

@@ -3,7 +3,7 @@ ghost use Rattle.std.specs.List.{flat_map};
 ghost use Rattle.meta_table_text.specs.Lists.{list_head, list_text};
 
 use super::cursor::Cursor;
-use meta_table_text::{BEHIND_COUNT, LIST_END, TableList};
+use meta_table_text::{AFTER_COUNT, LIST_END, TableList};
 use std::alloc::{AllocError, Global};
 
 /// An item of a list in the text of tables.
@@ -26,7 +26,7 @@ pub(crate) fn list_count(cursor: &mut Cursor, list: TableList) -> usize
 {
     cursor.pass(list.title());
     let count = cursor.number(list.head(), b']');
-    cursor.pass(BEHIND_COUNT);
+    cursor.pass(AFTER_COUNT);
     count
 }
 

@@ -3,7 +3,7 @@ use Rattle.std.proofs.Common.{◌≡◌, ◌≢◌, ℕ, ◌==◌, ◌↔◌, Bo
 use Rattle.std.proofs.Common.{refl, sym, ap, ◌∙◌, subst}
 use Rattle.std.specs.List.{find}
 use Rattle.std.proofs.lemmas.Bool.{eqb-true, eq-eqb, false≢true}
-use Rattle.meta_lists.proofs.Contained.{contains_first, contains_behind, contains_cases, contains_none}
+use Rattle.meta_lists.proofs.Contained.{contains_first, contains_after, contains_cases, contains_none}
 use Rattle.meta_types.specs.TypeParts.{TypeParts, IsType, number_of}
 use Rattle.meta_types.proofs.Numbers.{one_number}
 
@@ -17,7 +17,7 @@ find_holds {X} test (x ∷ xs) y e = by_test (test x) refl e (find_holds test xs
     by_test true is e below =
         let same : x ≡ y = cc in
         (subst (λ z. test z ≡ true) same is, subst (Contains (x ∷ xs)) same (contains_first x xs))
-    by_test false is e below = let (passes, among) = below e in (passes, contains_behind x y xs among)
+    by_test false is e below = let (passes, among) = below e in (passes, contains_after x y xs among)
 
 -- where nothing is found, nothing that is contained passes
 pub find_none : {X : Type 0} (test : X → Bool) (xs : List X) (y : X) → find test xs ≡ None → Contains xs y → test y ≡ false
@@ -28,7 +28,7 @@ find_none {X} test (x ∷ xs) y e among = by_test (test x) refl e (contains_case
         → (find test xs ≡ None → Contains xs y → test y ≡ false) → test y ≡ false
     by_test true is e place below = absurd (cc)
     by_test false is e (inl same) below = subst (λ z. test z ≡ false) same is
-    by_test false is e (inr behind) below = below e behind
+    by_test false is e (inr after) below = below e after
 
 -- in a list of all types, the type with a number is found by it
 module _ (types : List TypeParts) (listed : (t : TypeParts) → (IsType t ↔ Contains types t)) (n : ℕ) where

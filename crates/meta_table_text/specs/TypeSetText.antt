@@ -8,13 +8,13 @@ use Rattle.meta_typevar.specs.declared.masks.Masks.{Masks}
 use Rattle.meta_text.specs.Lines.{Line, at, text_of}
 
 -- the texts, this one before the first, and a comma and a space before each other
-abbrev pub parted_behind : List ℕ → List (List ℕ) → List ℕ
-parted_behind before [] = []
-parted_behind before (text ∷ texts) = before ++ (text ++ parted_behind (codes ", ") texts)
+abbrev pub parted_after : List ℕ → List (List ℕ) → List ℕ
+parted_after before [] = []
+parted_after before (text ∷ texts) = before ++ (text ++ parted_after (codes ", ") texts)
 
 -- the texts, parted by a comma and a space
 abbrev pub parted : List (List ℕ) → List ℕ
-parted texts = parted_behind [] texts
+parted texts = parted_after [] texts
 
 -- the powers of two that a mask of 16 bits may hold, rising
 abbrev pub powers : List ℕ

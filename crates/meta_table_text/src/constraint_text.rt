@@ -2,7 +2,7 @@ ghost use Rattle.std.specs.Prelude.{◌≡◌, ◌++◌, ◌∷◌, List, IfOk, 
 ghost use Rattle.meta_gen.specs.declared.constraint.Constraint.{Constraint};
 ghost use Rattle.meta_inst.specs.Controls.{which_of};
 ghost use Rattle.meta_gen.specs.Constraint.{number_constraint_of};
-ghost use Rattle.meta_table_text.specs.TypeSetText.{parted_behind};
+ghost use Rattle.meta_table_text.specs.TypeSetText.{parted_after};
 ghost use Rattle.meta_table_text.specs.ConstraintText.{type_text, control_mark, constraint_text, constraint_line, quoted};
 ghost use Rattle.meta_table_text.specs.ConstraintText.{constraints_comment};
 
@@ -78,8 +78,8 @@ fn push_next<'a>(
     before: &'a str,
 ) -> Result<&'a str, AllocError>
     ensures { IfOk result (λ next. (rest : List Constraint)
-        → string_bytes out.new ++ parted_behind next.now (map quoted (map number_constraint_of rest))
-        ≡ string_bytes out.old ++ parted_behind before.now (map quoted (map number_constraint_of (constraint ∷ rest)))) }
+        → string_bytes out.new ++ parted_after next.now (map quoted (map number_constraint_of rest))
+        ≡ string_bytes out.old ++ parted_after before.now (map quoted (map number_constraint_of (constraint ∷ rest)))) }
 {
     out.push_str(before)?;
     out.push_str("'")?;

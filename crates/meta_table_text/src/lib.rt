@@ -16,6 +16,6 @@ mod version;
 mod whole_text;
 
 pub use fitting::fits;
-pub use table_list::{BEHIND_COUNT, LIST_END, TableList};
+pub use table_list::{AFTER_COUNT, LIST_END, TableList};
 pub use version::Version;
 pub use whole_text::{table_text, write_tables};

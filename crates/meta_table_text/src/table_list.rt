@@ -63,7 +63,7 @@ impl TableList {
 }
 
 /// What the first line of a list has after the count of elements.
-pub const BEHIND_COUNT: &str = "] = [\n";
+pub const AFTER_COUNT: &str = "] = [\n";
 
 /// What comes after the last element of a list.
 pub const LIST_END: &str = "];\n";
@@ -81,6 +81,6 @@ pub(crate) fn push_list(
     write!(
         out,
         "{title}{head}{count}{}{lines}{}",
-        BEHIND_COUNT, LIST_END
+        AFTER_COUNT, LIST_END
     )
 }

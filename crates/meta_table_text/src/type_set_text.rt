@@ -1,7 +1,7 @@
 ghost use Rattle.std.specs.Prelude.{◌≡◌, ◌++◌, ◌∷◌, [], ℕ, List, IfOk, OnOk, map, string_bytes};
 ghost use Rattle.std.specs.Fmt.{decimal};
 ghost use Rattle.std.specs.Option.{option_map};
-ghost use Rattle.meta_table_text.specs.TypeSetText.{parted_behind, held, members, part_of, masks_text, set_or_nothing, set_comment};
+ghost use Rattle.meta_table_text.specs.TypeSetText.{parted_after, held, members, part_of, masks_text, set_or_nothing, set_comment};
 ghost use Rattle.meta_table_text.specs.TypeSetText.{set_block};
 
 use meta_typevar::Masks;
@@ -20,8 +20,8 @@ fn push_number<'a>(
     before: &'a str,
 ) -> Result<&'a str, AllocError>
     ensures { IfOk result (λ next. (rest : List ℕ)
-        → string_bytes out.new ++ parted_behind next.now (map decimal (held mask rest))
-        ≡ string_bytes out.old ++ parted_behind before.now (map decimal (held mask (number ∷ rest)))) }
+        → string_bytes out.new ++ parted_after next.now (map decimal (held mask rest))
+        ≡ string_bytes out.old ++ parted_after before.now (map decimal (held mask (number ∷ rest)))) }
 {
     if mask & number != number {
         return Ok(before);
@@ -32,7 +32,7 @@ fn push_number<'a>(
 
 /// Adds the numbers that the mask holds, separated by a comma and a space.
 fn push_held(out: &mut String, mask: u16, numbers: &[u16]) -> Result<(), AllocError>
-    ensures { OnOk result (string_bytes out.new ≡ string_bytes out.old ++ parted_behind [] (map decimal (held mask numbers.now))) }
+    ensures { OnOk result (string_bytes out.new ≡ string_bytes out.old ++ parted_after [] (map decimal (held mask numbers.now))) }
 {
     let mut before = "";
     for number in numbers {

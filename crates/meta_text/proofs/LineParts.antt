@@ -8,7 +8,7 @@ use Rattle.std.proofs.lemmas.List.Sums.{suffix_len_is}
 use Rattle.std.specs.List.{flat_map, suffix_len}
 use Rattle.std.specs.Prelude.{codes}
 use Rattle.meta_text.specs.Lines.{indented}
-use Rattle.meta_text.specs.LineWriter.{without_blanks, behind_comma, arm_mark, arm_text}
+use Rattle.meta_text.specs.LineWriter.{without_blanks, after_comma, arm_mark, arm_text}
 
 -- level 0 has no spaces
 pub no_level : (level : ℕ) → level ≤ 0 → indented level [] ≡ []
@@ -27,32 +27,32 @@ indented-append (suc level) a b = ap (λ (xs : List ℕ). codes "    " ++ xs) (i
 
 -- the fields from place i on, each after a comma, are the field at place i after its comma, and then the later ones
 pub next_field : (fields : List (List ℕ)) (i : ℕ) (field shown : List ℕ) → i < length fields → field ≡ get_or fields i field → shown ≡ field
-    → flat_map behind_comma (drop i fields) ≡ behind_comma shown ++ flat_map behind_comma (drop (i + 1) fields)
+    → flat_map after_comma (drop i fields) ≡ after_comma shown ++ flat_map after_comma (drop (i + 1) fields)
 next_field fields i field shown h is same =
-    ap (flat_map behind_comma) (drop-cons fields i field h)
-    ∙ (flat_map-cons behind_comma (get_or fields i field) (drop (suc i) fields)
-    ∙ (ap (λ (x : List ℕ). behind_comma x ++ flat_map behind_comma (drop (suc i) fields)) (sym (same ∙ is))
-    ∙ ap (λ (n : ℕ). behind_comma shown ++ flat_map behind_comma (drop n fields)) (sym (add-one i))))
+    ap (flat_map after_comma) (drop-cons fields i field h)
+    ∙ (flat_map-cons after_comma (get_or fields i field) (drop (suc i) fields)
+    ∙ (ap (λ (x : List ℕ). after_comma x ++ flat_map after_comma (drop (suc i) fields)) (sym (same ∙ is))
+    ∙ ap (λ (n : ℕ). after_comma shown ++ flat_map after_comma (drop n fields)) (sym (add-one i))))
 
 -- no field is left
-pub no_field : (fields : List (List ℕ)) (i : ℕ) → length fields ≤ i → flat_map behind_comma (drop i fields) ≡ []
-no_field fields i h = ap (flat_map behind_comma) (drop_all i fields h)
+pub no_field : (fields : List (List ℕ)) (i : ℕ) → length fields ≤ i → flat_map after_comma (drop i fields) ≡ []
+no_field fields i h = ap (flat_map after_comma) (drop_all i fields h)
 
 -- the head of an arm with fields is its parts
 pub head_parts : (level : ℕ) (name : List ℕ) (fields : List (List ℕ)) (first shown : List ℕ) → 1 ≤ length fields
     → first ≡ get_or fields 0 first → shown ≡ first
     → indented level (name ++ arm_mark fields) ≡ indented level (name ++ codes " { ")
-    ++ (shown ++ (flat_map behind_comma (take (length fields - 1) (drop 1 fields)) ++ codes " } => "))
+    ++ (shown ++ (flat_map after_comma (take (length fields - 1) (drop 1 fields)) ++ codes " } => "))
 head_parts level name [] first shown some is same = let bad : ⊥ = omega arith in absurd bad
 head_parts level name (field ∷ fields) first shown some is same =
-    let rest : List ℕ = flat_map behind_comma fields ++ codes " } => " in
+    let rest : List ℕ = flat_map after_comma fields ++ codes " } => " in
     let count : suc (length fields) - 1 ≡ length fields = omega arith in
     let others : take (suc (length fields) - 1) fields ≡ fields = ap (λ (n : ℕ). take n fields) count
     ∙ take_all (length fields) fields (omega arith) in
     ap (indented level) (sym (append_assoc name (codes " { ") (field ++ rest)))
     ∙ (indented-append level (name ++ codes " { ") (field ++ rest)
     ∙ (ap (λ (xs : List ℕ). indented level (name ++ codes " { ") ++ (xs ++ rest)) (sym (same ∙ is))
-    ∙ ap (λ (xs : List (List ℕ)). indented level (name ++ codes " { ") ++ (shown ++ (flat_map behind_comma xs ++ codes " } => ")))
+    ∙ ap (λ (xs : List (List ℕ)). indented level (name ++ codes " { ") ++ (shown ++ (flat_map after_comma xs ++ codes " } => ")))
     (sym others)))
 
 -- an arm is its head and its body

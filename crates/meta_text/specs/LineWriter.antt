@@ -24,13 +24,13 @@ abbrev pub without_blanks : List ℕ → List ℕ
 without_blanks bytes = take (length bytes - suffix_len (λ byte. byte == 32) bytes) bytes
 
 -- a comma and a space, and then the field
-abbrev pub behind_comma : List ℕ → List ℕ
-behind_comma field = codes ", " ++ field
+abbrev pub after_comma : List ℕ → List ℕ
+after_comma field = codes ", " ++ field
 
 -- what stands between the name of an arm and its body: ` { F, G } => `, or ` => ` if there are no fields
 abbrev pub arm_mark : List (List ℕ) → List ℕ
 arm_mark [] = codes " => "
-arm_mark (field ∷ fields) = codes " { " ++ (field ++ (flat_map behind_comma fields ++ codes " } => "))
+arm_mark (field ∷ fields) = codes " { " ++ (field ++ (flat_map after_comma fields ++ codes " } => "))
 
 -- the line of this text
 abbrev pub line_text : ℕ → List ℕ → List ℕ

@@ -2,7 +2,7 @@ ghost use Rattle.std.specs.Prelude.{◌≡◌, ℕ, ◌+◌, ◌-◌, ◌^◌, �
 ghost use Rattle.std.specs.List.{flat_map};
 ghost use Rattle.meta_text.specs.Lines.{indented, text_of, empty_line};
 ghost use Rattle.meta_text.specs.Writes.{Writes};
-ghost use Rattle.meta_text.specs.LineWriter.{sink_of, sink_name, level_of, without_blanks, behind_comma, arm_mark, line_text, block_text};
+ghost use Rattle.meta_text.specs.LineWriter.{sink_of, sink_name, level_of, without_blanks, after_comma, arm_mark, line_text, block_text};
 ghost use Rattle.meta_text.specs.LineWriter.{end_text, arm_text};
 
 use crate::outside::Sink;
@@ -162,7 +162,7 @@ fn put_line<K: Sink>(sink: &mut K, level: u32, text: &[u8], end: &[u8]) -> Resul
 
 /// Writes each field after a comma.
 fn put_fields<K: Sink>(sink: &mut K, fields: &[Text]) -> Result<(), WriteError>
-    ensures { Writes K.taken K.faults (flat_map behind_comma fields.now) result sink.old sink.new }
+    ensures { Writes K.taken K.faults (flat_map after_comma fields.now) result sink.old sink.new }
 {
     for field in fields {
         put_both(sink, b", ", field.as_bytes())?;

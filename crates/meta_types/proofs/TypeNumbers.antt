@@ -111,7 +111,7 @@ is_lane text code e = found_row IsLane lane_codes (
 ) text code e
 
 -- the text is what a name has after that of its lane, with this row
-record IsBehindLane (text : List ℕ) (row : ℕ) : Type 0 where
+record IsAfterLane (text : List ℕ) (row : ℕ) : Type 0 where
   lanes : ℕ
   is_dynamic : Bool
   may : Contains (lane_counts is_dynamic) lanes
@@ -119,12 +119,12 @@ record IsBehindLane (text : List ℕ) (row : ℕ) : Type 0 where
   doubled : 16 * row ≡ 16 * log2 lanes + (if is_dynamic then 0x80 else 0)
 
 lanes_of : (lanes : ℕ) (is_dynamic : Bool) → Contains (lane_counts is_dynamic) lanes → (text : List ℕ) (row : ℕ)
-    → text ≡ lanes_name lanes is_dynamic → 16 * row ≡ 16 * log2 lanes + (if is_dynamic then 0x80 else 0) → IsBehindLane text row
+    → text ≡ lanes_name lanes is_dynamic → 16 * row ≡ 16 * log2 lanes + (if is_dynamic then 0x80 else 0) → IsAfterLane text row
 lanes_of lanes is_dynamic may text row e d = record { lanes = lanes; is_dynamic = is_dynamic; may = may; written = e; doubled = d }
 
-is_fixed : (text : List ℕ) (row : ℕ) → found_in fixed_rows text ≡ Some row → IsBehindLane text row
+is_fixed : (text : List ℕ) (row : ℕ) → found_in fixed_rows text ≡ Some row → IsAfterLane text row
 unfolding AllRows digits
-is_fixed text row e = found_row IsBehindLane fixed_rows (
+is_fixed text row e = found_row IsAfterLane fixed_rows (
   lanes_of 1 false (0, lit< tt, refl) _ _ refl refl,
   (
     lanes_of 2 false (1, lit< tt, refl) _ _ refl refl,
@@ -150,9 +150,9 @@ is_fixed text row e = found_row IsBehindLane fixed_rows (
   ),
 ) text row e
 
-is_dynamic_row : (text : List ℕ) (row : ℕ) → found_in dynamic_rows text ≡ Some row → IsBehindLane text row
+is_dynamic_row : (text : List ℕ) (row : ℕ) → found_in dynamic_rows text ≡ Some row → IsAfterLane text row
 unfolding AllRows digits
-is_dynamic_row text row e = found_row IsBehindLane dynamic_rows (
+is_dynamic_row text row e = found_row IsAfterLane dynamic_rows (
   lanes_of 2 true (0, lit< tt, refl) _ _ refl refl,
   (
     lanes_of 4 true (1, lit< tt, refl) _ _ refl refl,
@@ -175,10 +175,10 @@ is_dynamic_row text row e = found_row IsBehindLane dynamic_rows (
   ),
 ) text row e
 
-is_behind : (text : List ℕ) (row : ℕ) → row_of text ≡ Some row → IsBehindLane text row
-is_behind text row e = by_fixed (found_in fixed_rows text) refl e
+is_after : (text : List ℕ) (row : ℕ) → row_of text ≡ Some row → IsAfterLane text row
+is_after text row e = by_fixed (found_in fixed_rows text) refl e
   where
-    by_fixed : (o : Option ℕ) → found_in fixed_rows text ≡ o → option_or o (found_in dynamic_rows text) ≡ Some row → IsBehindLane text row
+    by_fixed : (o : Option ℕ) → found_in fixed_rows text ≡ o → option_or o (found_in dynamic_rows text) ≡ Some row → IsAfterLane text row
     by_fixed None none e = is_dynamic_row text row e
     by_fixed (Some k) found e = is_fixed text row (found ∙ e)
 
@@ -190,12 +190,12 @@ of_type t is text n named numbered =
       named = ap name_of back ∙ named;
     }
 
-of_parts : (lane lanes : List ℕ) (code row : ℕ) → IsLane lane code → IsBehindLane lanes row
+of_parts : (lane lanes : List ℕ) (code row : ℕ) → IsLane lane code → IsAfterLane lanes row
     → IsNameOf (lane ++ lanes) (0x70 + code + 16 * row)
 of_parts lane lanes code row l b =
     of_type (record { kind = l.kind; width = l.width; lanes = b.lanes; is_dynamic = b.is_dynamic })
     (record { width = l.is_width; lanes = b.may }) (lane ++ lanes) (0x70 + code + 16 * row)
-    (ap₂ (λ front behind. front ++ behind) (sym l.named) (sym b.written))
+    (ap₂ (λ front after. front ++ after) (sym l.named) (sym b.written))
     (let e = l.coded in let d = b.doubled in omega (arith, e, d))
 
 -- ---- of a name that is cut after that of its lane
@@ -206,7 +206,7 @@ module _ (text lane lanes : List ℕ) (end : ℕ) (is : end ≡ lane_length text
   pub named_by : (code row : ℕ) → found_in lane_codes lane ≡ Some code → row_of lanes ≡ Some row → IsNameOf text (0x70 + code + 16 * row)
   named_by code row c r =
       let whole : lane ++ lanes ≡ text = ap₂ (λ (x y : List ℕ). x ++ y) front back ∙ take-append-drop end text in
-      subst (λ t. IsNameOf t (0x70 + code + 16 * row)) whole (of_parts lane lanes code row (is_lane lane code c) (is_behind lanes row r))
+      subst (λ t. IsNameOf t (0x70 + code + 16 * row)) whole (of_parts lane lanes code row (is_lane lane code c) (is_after lanes row r))
 
   parts : number_named text ≡ number_of_parts lane lanes
   parts = ap (λ n. number_of_parts (take n text) (drop n text)) (sym is)

@@ -1,7 +1,7 @@
 -- Faults are looked for in one order, and the first counts.
---     IsFirstShown key Shows e      e is the first fault
---     ShowsNone Shows               no fault is shown
---     ShowsNoneBefore key Shows k   no fault that is looked for before k is shown
+--     IsFirstFound key Has e   e is the first fault
+--     HasNoFault Has           there is no fault
+--     HasNoneBefore key Has k  there is no fault that is looked for before k
 use Rattle.std.specs.Prelude.{◌≡◌, ◌<◌, ◌⊎◌, ℕ}
 use Rattle.meta_types.specs.declared.fault.DefinitionError.{DefinitionError}
 
@@ -19,19 +19,19 @@ key_at part place rule = record { part = part; place = place; rule = rule }
 abbrev pub IsEarlier : Key → Key → Type 0
 IsEarlier k m = (k.part < m.part) ⊎ ((k.part ≡ m.part) × ((k.place < m.place) ⊎ ((k.place ≡ m.place) × (k.rule < m.rule))))
 
--- Faults are looked for at positions, which are in the order of their keys. Shows p e says that the rule of the position p is
+-- Faults are looked for at positions, which are in the order of their keys. Has p e says that the rule of the position p is
 -- broken there, and that the fault e tells of it.
 
 -- no fault is shown at a position before the key
-abbrev pub ShowsNoneBefore : {P : Type 0} → (P → Key) → (P → DefinitionError → Type 0) → Key → Type 0
-ShowsNoneBefore {P} key Shows k = (p : P) (e : DefinitionError) → IsEarlier (key p) k → Shows p e → ⊥
+abbrev pub HasNoneBefore : {P : Type 0} → (P → Key) → (P → DefinitionError → Type 0) → Key → Type 0
+HasNoneBefore {P} key Has k = (p : P) (e : DefinitionError) → IsEarlier (key p) k → Has p e → ⊥
 
 -- e is the first fault: it is shown at a position, and none is shown at an earlier one
-pub record IsFirstShown {P : Type 0} (key : P → Key) (Shows : P → DefinitionError → Type 0) (e : DefinitionError) : Type 0 where
+pub record IsFirstFound {P : Type 0} (key : P → Key) (Has : P → DefinitionError → Type 0) (e : DefinitionError) : Type 0 where
   pub position : P
-  pub shows : Shows position e
-  pub first : ShowsNoneBefore key Shows (key position)
+  pub shows : Has position e
+  pub first : HasNoneBefore key Has (key position)
 
 -- no fault is shown
-abbrev pub ShowsNone : {P : Type 0} → (P → DefinitionError → Type 0) → Type 0
-ShowsNone {P} Shows = (p : P) (e : DefinitionError) → Shows p e → ⊥
+abbrev pub HasNoFault : {P : Type 0} → (P → DefinitionError → Type 0) → Type 0
+HasNoFault {P} Has = (p : P) (e : DefinitionError) → Has p e → ⊥

@@ -169,11 +169,11 @@ impl LaneType {
         ensures { IfOk result (λ t. t ≡ type_doc (lane_parts self)) }
     {
         let bits = self.lane_bits();
-        let (before, behind) = match self {
+        let (before, after) = match self {
             LaneType::Int(_) => ("An integer type with ", " bits."),
             LaneType::Float(_) => ("A ", "-bit floating point type."),
         };
-        let doc = format!(in alloc; "{before}{bits}{behind}")?;
+        let doc = format!(in alloc; "{before}{bits}{after}")?;
         Ok(Text::of(doc))
     }
 

@@ -196,11 +196,11 @@ filling_end hashes items index slots f past = record {
 pub vacant_shown : {X : Type 0} (raw : List (Option (Bor X))) (slot : ℕ) → IsVacant raw slot → IsVacant (map option_copied raw) slot
 vacant_shown raw slot v = slice_get-map option_copied raw slot ∙ ap (option_map option_copied) v
 
-pub vacant_behind : {X : Type 0} (raw : List (Option (Bor X))) (slot : ℕ) → IsVacant (map option_copied raw) slot → IsVacant raw slot
-vacant_behind [] slot v = (cc)
-vacant_behind (None ∷ raw) zero v = refl
-vacant_behind (Some r ∷ raw) zero v = let e : Some (Some r.now) ≡ Some None = v in (cc)
-vacant_behind (r ∷ raw) (suc slot) v = vacant_behind raw slot v
+pub vacant_after : {X : Type 0} (raw : List (Option (Bor X))) (slot : ℕ) → IsVacant (map option_copied raw) slot → IsVacant raw slot
+vacant_after [] slot v = (cc)
+vacant_after (None ∷ raw) zero v = refl
+vacant_after (Some r ∷ raw) zero v = let e : Some (Some r.now) ≡ Some None = v in (cc)
+vacant_after (r ∷ raw) (suc slot) v = vacant_after raw slot v
 
 -- and so the first free one of a probe is the same
 pub first_shown : {X : Type 0} (raw : List (Option (Bor X))) (h slot : ℕ) → IsVacant raw slot

@@ -84,8 +84,8 @@ module _ (first : ℕ) (names : List (List ℕ)) (slots : List (Option ℕ)) (s 
                     (subst (λ z. SlotHolds slots z (first + j)) (sym w.free.here) w.holds) in
                     let refused : false ≡ true = p.refused.1 (record { place = j; number_is = one; there = at }) in
                     absurd (cc)
-                | inr behind ↦
-                    let h = earlier_held j (slot_at (length slots) (simple_hash_of name) last) at (w.free.passed last behind) in
+                | inr after ↦
+                    let h = earlier_held j (slot_at (length slots) (simple_hash_of name) last) at (w.free.passed last after) in
                     let one = one_held slots (slot_at (length slots) (simple_hash_of name) last) e (first + h.0) l.ends.0 h.2 in
                     let b = h.1 in omega (arith, one, b)
               ]
@@ -106,8 +106,8 @@ module _ (first : ℕ) (names : List (List ℕ)) (slots : List (Option ℕ)) (s 
                 (subst (λ z. SlotHolds slots z (first + n.place)) (sym w.free.here) w.holds) in
                 let refused : false ≡ true = p.refused.1 (record { place = n.place; number_is = one; there = n.there }) in
                 absurd (cc)
-            | inr behind ↦
-                let h = earlier_held n.place (slot_at (length slots) (simple_hash_of name) last) n.there (w.free.passed last behind) in
+            | inr after ↦
+                let h = earlier_held n.place (slot_at (length slots) (simple_hash_of name) last) n.there (w.free.passed last after) in
                 held_vacant slots (slot_at (length slots) (simple_hash_of name) last) (first + h.0) h.2 l.ends
           ]
         ]

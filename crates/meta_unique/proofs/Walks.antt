@@ -30,10 +30,10 @@ pub vacant_taken : {X : Type 0} (slots : List (Option X)) (slot : ℕ) → IsVac
 vacant_taken slots slot v t = let e : Some None ≡ Some (Some t.0) = sym v ∙ t.1 in (cc)
 
 -- if P is of taken slots, the vacant slot comes after each slot that has P
-behind : {X : Type 0} (slots : List (Option X)) (start slot passed vacant : ℕ) (P : ℕ → Type 0)
+vacant_later : {X : Type 0} (slots : List (Option X)) (start slot passed vacant : ℕ) (P : ℕ → Type 0)
     → ((s : ℕ) → P s → IsTaken slots s) → Walked slots start slot passed P → P slot → IsVacant slots vacant
     → (k : ℕ) → slot_at (length slots) start k ≡ vacant → passed < k
-behind slots start slot passed vacant P taken w here v k e = elim (cases_order k passed) [
+vacant_later slots start slot passed vacant P taken w here v k e = elim (cases_order k passed) [
   | inl same ↦ absurd (vacant_taken slots vacant v
       (taken vacant (subst P (sym w.here ∙ ap (slot_at (length slots) start) (sym same) ∙ e) here)))
   | inr other ↦ elim other [
@@ -47,7 +47,7 @@ pub walk_next : {X : Type 0} (slots : List (Option X)) (start slot passed vacant
     → Walked slots start slot passed P → P slot → Walked slots start ((slot + (passed + 1)) % length slots) (passed + 1) P
 walk_next slots start slot passed vacant P power v taken w here =
     let met = (visits_power (length slots) power).all start vacant (slice_get_within slots vacant None v) in
-    let room : passed < met.0 = behind slots start slot passed vacant P taken w here v met.0 met.2 in
+    let room : passed < met.0 = vacant_later slots start slot passed vacant P taken w here v met.0 met.2 in
     record {
       here = sym (ap (λ s. (s + (passed + 1)) % length slots) (sym w.here) ∙ next_slot (length slots) start passed);
       inside = omega arith;

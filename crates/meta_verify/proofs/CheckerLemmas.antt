@@ -85,8 +85,8 @@ at_value m v = by_test (nat_eq (get_or m.near.items v 0) 0) (ap (λ test. option
         → option_map type_with (cond b (get nat_cmp m.others v) (Some (get_or m.near.items v 0)))
         ≡ cond b (lookup (nat_eq v) (map (λ (e : ℕ × ℕ). (e.0, type_with e.1)) m.others.entries))
         (Some (type_with (get_or m.near.items v 0)))
-    by_test true behind = behind
-    by_test false behind = refl
+    by_test true after = after
+    by_test false after = refl
 
 pub seen : (m : KnownTypes) (l : Entries) → entries_of m ≡ l → environment_of m ≡ definitions l
 seen m l e = (λ i v. at_value m v i) ∙ ap definitions e

@@ -73,23 +73,23 @@ module _ (types between : KnownTypes) (rs : List TypedNumber) (d : TypedNumber) 
     others_fresh = ap (λ (env : Environment). first_redefined env (map typed_value_of (others_of rs))) put_there ∙ heads.1
 
     -- it is taken back if the others couldn't be put in
-    pub first_taken_back : (behind after : KnownTypes) → ((v : ℕ) → environment_of behind v ≡ environment_of between v)
-        → ((v : ℕ) → known_number after v ≡ cond (nat_eq (get_or rs 0 d).value v) None (known_number behind v)) → (v : ℕ)
+    pub first_taken_back : (defined after : KnownTypes) → ((v : ℕ) → environment_of defined v ≡ environment_of between v)
+        → ((v : ℕ) → known_number after v ≡ cond (nat_eq (get_or rs 0 d).value v) None (known_number defined v)) → (v : ℕ)
         → environment_of after v ≡ environment_of types v
-    first_taken_back behind after same took v = ap (option_map type_with) (took v) ∙ by_test (nat_eq (get_or rs 0 d).value v) refl
+    first_taken_back defined after same took v = ap (option_map type_with) (took v) ∙ by_test (nat_eq (get_or rs 0 d).value v) refl
       where
-        by_test : (b : Bool) → nat_eq (get_or rs 0 d).value v ≡ b → option_map type_with (cond b None (known_number behind v))
+        by_test : (b : Bool) → nat_eq (get_or rs 0 d).value v ≡ b → option_map type_with (cond b None (known_number defined v))
             ≡ environment_of types v
         by_test true e = sym (sym (ap (environment_of types) (eqb-true (get_or rs 0 d).value v e)) ∙ heads.0)
         by_test false e = same v ∙ ap (λ (env : Environment). env v) put_there
             ∙ ap (λ b. cond b (Some (type_with (get_or rs 0 d).number)) (environment_of types v)) e
 
 -- one value less
-pub less_known : (behind after : KnownTypes) (k : ℕ) → ((v : ℕ) → known_number after v ≡ cond (nat_eq k v) None (known_number behind v))
-    → AreTypeNumbers behind → AreTypeNumbers after
-less_known behind after k took known v = subst (λ o. IfSome o IsTypeNumber) (sym (took v)) (by_test (nat_eq k v))
+pub less_known : (defined after : KnownTypes) (k : ℕ) → ((v : ℕ) → known_number after v ≡ cond (nat_eq k v) None (known_number defined v))
+    → AreTypeNumbers defined → AreTypeNumbers after
+less_known defined after k took known v = subst (λ o. IfSome o IsTypeNumber) (sym (took v)) (by_test (nat_eq k v))
   where
-    by_test : (b : Bool) → IfSome (cond b None (known_number behind v)) IsTypeNumber
+    by_test : (b : Bool) → IfSome (cond b None (known_number defined v)) IsTypeNumber
     by_test true = tt
     by_test false = known v
 

@@ -186,9 +186,9 @@ module _ (d : InstructionSet) (tables : TableContents) (made : AreTablesOf d tab
         before = h.before;
         leads = leads (AllowedReply tables) (AcceptedReply d) (accepted d tables made means)
             (unknown_back d tables made) nothing_defined h.before (take n lines) nothing_named h.leads;
-        behind = h.behind;
+        after = h.after;
         fed = feeds (AllowedReply tables) (AcceptedReply d) (accepted d tables made means)
-            (unknown_back d tables made) h.before h.behind h.line answer named h.fed;
+            (unknown_back d tables made) h.before h.after h.line answer named h.fed;
       }
 
   -- the same, and the declarations are valid
@@ -211,22 +211,22 @@ module _ (d : InstructionSet) (tables : TableContents) (made : AreTablesOf d tab
             (unknown_forth d tables made means) env s named can h,
       )
 
-      pub fed_means : (line : List ℕ) (answer : Option Reason) (behind : Environment)
-          → (Feeds (AllowedReply tables) env line answer behind ↔ Feeds (AcceptedReply d) env line answer behind)
-      fed_means line answer behind = (
+      pub fed_means : (line : List ℕ) (answer : Option Reason) (after : Environment)
+          → (Feeds (AllowedReply tables) env line answer after ↔ Feeds (AcceptedReply d) env line answer after)
+      fed_means line answer after = (
         λ h. feeds (AllowedReply tables) (AcceptedReply d) (accepted d tables made means)
-            (unknown_back d tables made) env behind line answer named h,
+            (unknown_back d tables made) env after line answer named h,
         λ h. feeds (AcceptedReply d) (AllowedReply tables) (allowed d tables made means valid)
-            (unknown_forth d tables made means) env behind line answer named h,
+            (unknown_forth d tables made means) env after line answer named h,
       )
 
-      pub led_means : (lines : List (List ℕ)) (behind : Environment)
-          → (LeadTo (AllowedReply tables) env lines behind ↔ LeadTo (AcceptedReply d) env lines behind)
-      led_means lines behind = (
+      pub led_means : (lines : List (List ℕ)) (after : Environment)
+          → (LeadTo (AllowedReply tables) env lines after ↔ LeadTo (AcceptedReply d) env lines after)
+      led_means lines after = (
         λ h. leads (AllowedReply tables) (AcceptedReply d) (accepted d tables made means)
-            (unknown_back d tables made) env behind lines named h,
+            (unknown_back d tables made) env after lines named h,
         λ h. leads (AcceptedReply d) (AllowedReply tables) (allowed d tables made means valid)
-            (unknown_forth d tables made means) env behind lines named h,
+            (unknown_forth d tables made means) env after lines named h,
       )
 
     -- what is said of an input

@@ -109,9 +109,9 @@ module _ (R : Replies) (one : (q : Question) (r s : Reply) → R q r → R q s �
   one_answered lines n a b h g =
       let line : h.line ≡ g.line = same_Some h.line g.line (sym h.at ∙ g.at) in
       let before : h.before ≡ g.before = one_lead nothing_defined (take n lines) h.before g.before h.leads g.leads in
-      let fed : Feeds R g.before g.line a h.behind =
-      subst (λ x. Feeds R x g.line a h.behind) before (subst (λ l. Feeds R h.before l a h.behind) line h.fed) in
-      (one_fed g.before h.behind g.behind g.line a b fed g.fed).0
+      let fed : Feeds R g.before g.line a h.after =
+      subst (λ x. Feeds R x g.line a h.after) before (subst (λ l. Feeds R h.before l a h.after) line h.fed) in
+      (one_fed g.before h.after g.after g.line a b fed g.fed).0
 
   pub right_not_wrong : (lines : List (List ℕ)) (n : ℕ) (reason : Reason) → IsAnsweredAt R lines n None
       → IsAnsweredAt R lines n (Some reason) → ⊥

@@ -9,7 +9,7 @@ use Rattle.std.proofs.lemmas.List.Splits.{join_with_byte-slice_split}
 use Rattle.meta_types.specs.TypeParts.{TypeParts, IsType, name_of}
 use Rattle.meta_types.proofs.Names.{one_name}
 use Rattle.meta_lines.specs.Words.{IsWord, AreWords, pieces_of}
-use Rattle.meta_lines.specs.Control.{control_text, IsBehind}
+use Rattle.meta_lines.specs.Control.{control_text, IsAfter}
 use Rattle.meta_lines.proofs.PieceLemmas.{slice_split_cons, All-slice_split, only_piece, whole_piece, first_piece}
 use Rattle.meta_lines.proofs.NameLemmas.{IsDigit, decimal_lacks, has_no_comma, has_no_colon}
 use Rattle.meta_lines.proofs.WordLemmas.{pieces_of-words, words_from}
@@ -104,10 +104,10 @@ pub is_typed : (word first rest : List ℕ) (v : ℕ) (t : TypeParts) → pieces
     → name_of t ≡ rest → word ≡ value_text v ++ 58 ∷ name_of t
 is_typed word first rest v t pieces value named =
     let more = slice_split_cons (λ b. b == 58) rest in
-    let behind : first ++ 58 ∷ rest ≡ join_with_byte 58 (first ∷ pieces_of 58 rest) =
+    let after : first ++ 58 ∷ rest ≡ join_with_byte 58 (first ∷ pieces_of 58 rest) =
     ap (λ r. first ++ 58 ∷ r) (sym (join_with_byte-slice_split 58 rest) ∙ ap (join_with_byte 58) more.is)
     ∙ sym (ap (λ ps. join_with_byte 58 (first ∷ ps)) more.is) in
-    sym (ap₂ (λ (x y : List ℕ). x ++ 58 ∷ y) (sym value) named ∙ behind ∙ sym (ap (join_with_byte 58) pieces)
+    sym (ap₂ (λ (x y : List ℕ). x ++ 58 ∷ y) (sym value) named ∙ after ∙ sym (ap (join_with_byte 58) pieces)
     ∙ join_with_byte-slice_split 58 word)
 
 -- ---- lines
@@ -173,9 +173,9 @@ pieces_are line (OfApplication a) h = pieces_of-words line _ _ h.words
 
 pub name_has_bytes : (line : List ℕ) (a : Application) → IsStatement line (OfApplication a) → 0 < length a.name
 name_has_bytes line a h =
-    let behind : List (List ℕ) = control_text a.control a.second ∷ list_text (map typed_text a.results)
+    let after : List (List ℕ) = control_text a.control a.second ∷ list_text (map typed_text a.results)
     ∷ list_text (map value_text a.values) ∷ [] in
-    (All-head IsWord a.name behind (All-tail IsWord (codes "line") (a.name ∷ behind) h.words.each)).has_bytes
+    (All-head IsWord a.name after (All-tail IsWord (codes "line") (a.name ∷ after) h.words.each)).has_bytes
 
 -- where a line of an application has these words
 module _ (line name control results values : List ℕ) (pieces : pieces_of 32 line ≡ codes "line" ∷ name ∷ control ∷ results ∷ values ∷ [])
@@ -183,8 +183,8 @@ module _ (line name control results values : List ℕ) (pieces : pieces_of 32 li
   same_words : words_of (OfApplication a) ≡ codes "line" ∷ name ∷ control ∷ results ∷ values ∷ []
   same_words = sym (pieces_are line (OfApplication a) h) ∙ pieces
 
-  pub no_control : ((c d : Option TypeParts) → IfSome c IsType → IfSome d IsType → IsBehind c d → control_text c d ≢ control) → ⊥
-  no_control none = let e = same_words in none a.control a.second h.can.control h.can.second h.can.behind (cc)
+  pub no_control : ((c d : Option TypeParts) → IfSome c IsType → IfSome d IsType → IsAfter c d → control_text c d ≢ control) → ⊥
+  no_control none = let e = same_words in none a.control a.second h.can.control h.can.second h.can.after (cc)
 
   pub no_results : ((rs : List TypedValue) → All IsTyped rs → list_text (map typed_text rs) ≢ results) → ⊥
   no_results none = let e = same_words in none a.results h.can.results (cc)
@@ -250,8 +250,8 @@ one_statement line (OfApplication a) (OfApplication b) h k =
     let controls : control_text a.control a.second ≡ control_text b.control b.second = cc in
     let results : list_text (map typed_text a.results) ≡ list_text (map typed_text b.results) = cc in
     let values : list_text (map value_text a.values) ≡ list_text (map value_text b.values) = cc in
-    let c = same_controls a.control a.second b.control b.second h.can.control h.can.second h.can.behind k.can.control k.can.second
-    k.can.behind controls in
+    let c = same_controls a.control a.second b.control b.second h.can.control h.can.second h.can.after k.can.control k.can.second
+    k.can.after controls in
     let r = same_list IsTyped typed_text typed_no_comma typed_no_dash one_typed a.results b.results h.can.results k.can.results results in
     let v = same_list IsValue value_text value_no_comma value_no_dash one_written_value a.values b.values h.can.values k.can.values values
     in

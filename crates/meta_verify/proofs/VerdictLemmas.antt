@@ -66,7 +66,7 @@ module _ (tables : TableContents) (lines : List (List ℕ)) where
     at = at_front lines n line rest e;
     before = env;
     leads = h.leads;
-    behind = env';
+    after = env';
     fed = fed;
   }
 
@@ -84,7 +84,7 @@ module _ (tables : TableContents) (lines : List (List ℕ)) where
       by_order k l (inl is) = subst (λ x. IsAnsweredAt (AllowedReply tables) lines x None) (sym is)
           (answered n env env' line rest None h e fed)
       by_order k l (inr (inl before)) = h.each k before
-      by_order k l (inr (inr behind)) = absurd (omega (arith, l, behind))
+      by_order k l (inr (inr after)) = absurd (omega (arith, l, after))
 
   right_to : (n : ℕ) (env : Environment) → AreRightSoFar n env → AreRightTo (AllowedReply tables) lines n
   right_to n env h = record {

@@ -22,8 +22,8 @@ pub record IsAnsweredAt (R : Replies) (lines : List (List ℕ)) (n : ℕ) (answe
   pub at : slice_get lines n ≡ Some line
   pub before : Environment
   pub leads : LeadTo R nothing_defined (take n lines) before
-  pub behind : Environment
-  pub fed : Feeds R before line answer behind
+  pub after : Environment
+  pub fed : Feeds R before line answer after
 
 -- the line at this place is wrong, for this reason
 abbrev pub IsWrongAt : Replies → List (List ℕ) → ℕ → Reason → Type 0

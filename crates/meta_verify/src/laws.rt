@@ -29,12 +29,12 @@ pub fn verdicts_mean()
         → IsVerdict (AllowedReply t) input is_rejection text → verdicts d input is_rejection text }
     ensures fed { (d : InstructionSet) (t : TableContents) → IsValid d → AreTablesOf d t
         → ((op : ℕ) (c e : Option ℕ) (rs vs : List ℕ) → (Allows t op c e rs vs ↔ AcceptsOpcode d op c e rs vs))
-        → (env : Environment) → HasNamedTypes env → (line : List ℕ) (answer : Option Reason) (behind : Environment)
-        → (Feeds (AllowedReply t) env line answer behind ↔ Feeds (AcceptedReply d) env line answer behind) }
+        → (env : Environment) → HasNamedTypes env → (line : List ℕ) (answer : Option Reason) (after : Environment)
+        → (Feeds (AllowedReply t) env line answer after ↔ Feeds (AcceptedReply d) env line answer after) }
     ensures led { (d : InstructionSet) (t : TableContents) → IsValid d → AreTablesOf d t
         → ((op : ℕ) (c e : Option ℕ) (rs vs : List ℕ) → (Allows t op c e rs vs ↔ AcceptsOpcode d op c e rs vs))
-        → (env : Environment) → HasNamedTypes env → (lines : List (List ℕ)) (behind : Environment)
-        → (LeadTo (AllowedReply t) env lines behind ↔ LeadTo (AcceptedReply d) env lines behind) }
+        → (env : Environment) → HasNamedTypes env → (lines : List (List ℕ)) (after : Environment)
+        → (LeadTo (AllowedReply t) env lines after ↔ LeadTo (AcceptedReply d) env lines after) }
 {}
 
 /// By tables of valid declarations, what is stated is right, or wrong for a reason, exactly if it is by what the declarations mean. The
@@ -55,10 +55,10 @@ pub fn mistakes_mean()
 /// If the type of each value can be named, it still can after any lines. If no value is defined, all types can be named.
 pub fn types_stay_named()
     ensures nothing { HasNamedTypes nothing_defined }
-    ensures tables { (t : TableContents) (env behind : Environment) (lines : List (List ℕ)) → HasNamedTypes env
-        → LeadTo (AllowedReply t) env lines behind → HasNamedTypes behind }
-    ensures declared { (d : InstructionSet) (env behind : Environment) (lines : List (List ℕ)) → HasNamedTypes env
-        → LeadTo (AcceptedReply d) env lines behind → HasNamedTypes behind }
+    ensures tables { (t : TableContents) (env after : Environment) (lines : List (List ℕ)) → HasNamedTypes env
+        → LeadTo (AllowedReply t) env lines after → HasNamedTypes after }
+    ensures declared { (d : InstructionSet) (env after : Environment) (lines : List (List ℕ)) → HasNamedTypes env
+        → LeadTo (AcceptedReply d) env lines after → HasNamedTypes after }
 {}
 
 /// A line states at most one thing.

@@ -68,8 +68,8 @@ pub fn write_bytes(case: &mut Case<'_>, bytes: &[u8]) {
 fn around<'b>(bytes: &'b [u8], part: &[u8]) -> Result<(&'b [u8], &'b [u8]), Trouble> {
     for at in 0..bytes.len() {
         let (before, rest) = bytes.split_at(at);
-        if let Some(behind) = rest.strip_prefix(part) {
-            return Ok((before, behind));
+        if let Some(after) = rest.strip_prefix(part) {
+            return Ok((before, after));
         }
     }
     Err(Trouble::NoCase)
@@ -85,12 +85,12 @@ fn add_replaced(
 ) -> Result<(), AllocError> {
     let mut rest = bytes;
     for _ in 0..most.min(bytes.len()) {
-        let Ok((before, behind)) = around(rest, old) else {
+        let Ok((before, after)) = around(rest, old) else {
             break;
         };
         out.extend_from_slice(before)?;
         out.extend_from_slice(new)?;
-        rest = behind;
+        rest = after;
     }
     out.extend_from_slice(rest)
 }

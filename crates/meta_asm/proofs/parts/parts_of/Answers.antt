@@ -1,6 +1,6 @@
 use Rattle.std.proofs.Common.{◌≡◌, ◌++◌, List, ℕ, Bor, map, arith, ◌∙◌}
 use Rattle.meta_verify.specs.Statement.{value_text}
-use Rattle.meta_asm.specs.Short.{behind, short_results, short_result_text, control_written, values_written}
+use Rattle.meta_asm.specs.Short.{then_part, short_results, short_result_text, control_written, values_written}
 use Rattle.meta_asm.proofs.ShortLemmas.{equals, short_lacks}
 use Rattle.meta_asm.proofs.PartLemmas.{first_is, rest_is, applied_part, applied_lacks, head_values, head_lacks}
 use Rattle.meta_asm.proofs.parts.parts_of.Goals as goal
@@ -15,14 +15,14 @@ returns c = λ m a plain can e.
     (applied_lacks m a plain can) e in
     let control = control_written m.leaves_out a.control a.second in
     let values = values_written (map value_text a.values) in
-    let is : c.sides_of-sides.result.applied.now ≡ (a.name ++ behind 46 control) ++ behind 32 values = applied ∙ head_values m a in
-    let head : c.cut.result.0.now ≡ a.name ++ behind 46 control =
+    let is : c.sides_of-sides.result.applied.now ≡ (a.name ++ then_part 46 control) ++ then_part 32 values = applied ∙ head_values m a in
+    let head : c.cut.result.0.now ≡ a.name ++ then_part 46 control =
     first_is now 32 c.sides_of-sides.result.applied.now c.cut.result.0.now c.cut.result.1 c.cut.ensures
-    (a.name ++ behind 46 control) values (head_lacks m a plain can) is in
+    (a.name ++ then_part 46 control) values (head_lacks m a plain can) is in
     record {
       results = results;
       name = first_is now 46 c.cut.result.0.now c.cut-2.result.0.now c.cut-2.result.1 c.cut-2.ensures a.name control plain.point head;
       control = rest_is now 46 c.cut.result.0.now c.cut-2.result.0.now c.cut-2.result.1 c.cut-2.ensures a.name control plain.point head;
       values = rest_is now 32 c.sides_of-sides.result.applied.now c.cut.result.0.now c.cut.result.1 c.cut.ensures
-          (a.name ++ behind 46 control) values (head_lacks m a plain can) is;
+          (a.name ++ then_part 46 control) values (head_lacks m a plain can) is;
     }

@@ -5,14 +5,14 @@ use Rattle.meta_asm.proofs.parts.sides_of.Goals as goal
 pub returns-in-Some-clause-results : goal.returns-in-Some-clause-results
 returns-in-Some-clause-results c = λ results applied h g e.
     (has_results (λ (t : Bor (List ℕ)). t.now) c.args.text.now c.cut.result.0.now c.cut.result.1 c.cut.ensures c.in-Some.rest c.in-Some.is
-    c.without_space_behind.result.now c.without_space_before.result.now
-    c.without_space_behind.ensures c.without_space_before.ensures.space results applied h g e).0
+    c.without_space_after.result.now c.without_space_before.result.now
+    c.without_space_after.ensures c.without_space_before.ensures.space results applied h g e).0
 
 pub returns-in-Some-clause-applied : goal.returns-in-Some-clause-applied
 returns-in-Some-clause-applied c = λ results applied h g e.
     (has_results (λ (t : Bor (List ℕ)). t.now) c.args.text.now c.cut.result.0.now c.cut.result.1 c.cut.ensures c.in-Some.rest c.in-Some.is
-    c.without_space_behind.result.now c.without_space_before.result.now
-    c.without_space_behind.ensures c.without_space_before.ensures.space results applied h g e).1
+    c.without_space_after.result.now c.without_space_before.result.now
+    c.without_space_after.ensures c.without_space_before.ensures.space results applied h g e).1
 
 pub returns-in-None-clause-results : goal.returns-in-None-clause-results
 returns-in-None-clause-results c = λ results applied h g e.

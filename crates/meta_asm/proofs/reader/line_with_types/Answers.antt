@@ -52,7 +52,7 @@ returns c = λ line m a states h out parts.
     ap (option_map (λ (v : Vec ℕ Global). v.items)) c.in-Some-2.is in
     let word : c.in-Some-2.results.items ≡ list_text (map typed_text a.results) = cc in
     let controls = control_word_is m.leaves_out a.control a.second
-    (option_map (λ (t : Bor (List ℕ)). t.now) c.args.parts.control) _ c.in_ok-control.control.items h.can.control h.can.behind
+    (option_map (λ (t : Bor (List ℕ)). t.now) c.args.parts.control) _ c.in_ok-control.control.items h.can.control h.can.after
     parts.control control c.in_ok-control.ensures.written c.in_ok-control.ensures.known in
     ap (λ l. Some l) (line_is line c.in_ok-line_of.field-0.items c.args.parts.name.now c.deref-2.result.now c.deref-3.result.now
     c.deref-4.result.now a states parts.name (c.deref-2.ensures.value ∙ controls) (c.deref-3.ensures.value

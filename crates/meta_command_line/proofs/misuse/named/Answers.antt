@@ -1,6 +1,6 @@
 use Rattle.std.proofs.Common.{sym, ◌∙◌, arith}
 use Rattle.std.proofs.lemmas.Option.{slice_get-get_or, slice_get_within}
-use Rattle.meta_command_line.proofs.Behind.{others_more}
+use Rattle.meta_command_line.proofs.AfterName.{others_more}
 use Rattle.meta_command_line.proofs.Numbers.{no_truth}
 use Rattle.meta_command_line.proofs.misuse.named.Goals as goal
 

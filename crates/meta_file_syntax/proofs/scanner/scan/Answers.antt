@@ -16,14 +16,14 @@ loop-byte-preserved c =
     let within = c.loop-byte-test.true in
     let state = c.in_ok-take.ensures.state in
     let added = c.in_ok-take.ensures.tokens in
-    let behind = c.line_behind-line.ensures in
+    let after = c.line_past-line.ensures in
     let lines : c.number.new.lines.items ≡ l.lines.items ++ each l.line (given mode bytes byte) =
     numbered tokens _ _ (given mode bytes byte) l.lines.items _ l.line c.deref.ensures.value l.invariant.each added
     c.in_ok-number.ensures in
     record {
       tokens = tokens_more text i byte mode _ bytes _ tokens _ _ within refl state added l.invariant.tokens;
-      lines = lines_more text i byte l.line _ mode _ bytes _ l.lines.items _ _ within refl state behind lines l.invariant.lines;
+      lines = lines_more text i byte l.line _ mode _ bytes _ l.lines.items _ _ within refl state after lines l.invariant.lines;
       each = as_many_lines tokens _ (given mode bytes byte) l.lines.items _ l.line l.invariant.each added lines;
-      last = last_more text i byte l.last_line l.line _ _ within refl behind l.invariant.last;
-      below = line_below l.line byte _ (i + 1) behind l.invariant.below;
+      last = last_more text i byte l.last_line l.line _ _ within refl after l.invariant.last;
+      below = line_below l.line byte _ (i + 1) after l.invariant.below;
     }

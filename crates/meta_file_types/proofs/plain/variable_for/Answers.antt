@@ -2,7 +2,7 @@ use Rattle.std.proofs.Common.{◌∙◌, sym, ap, arith}
 use Rattle.std.proofs.lemmas.Bool.{eqb-true, eq-eqb, false≢true}
 use Rattle.meta_types.specs.TypeParts.{number_of}
 use Rattle.meta_types.specs.ValueTypes.{type_parts_of}
-use Rattle.meta_file_types.proofs.Known.{stands_at, stands_behind, stands_nowhere}
+use Rattle.meta_file_types.proofs.Known.{stands_at, stands_after, stands_nowhere}
 use Rattle.meta_file_types.proofs.plain.variable_for.Goals as goal
 
 pub returns-then-is_of-clause-found : goal.returns-then-is_of-clause-found
@@ -18,7 +18,7 @@ pub loop-root-preserved : goal.loop-root-preserved
 loop-root-preserved c = λ n s.
     let t = type_parts_of c.root-item.result.value_type in
     let u = type_parts_of c.args.value_type in
-    stands_behind c.args.plain.now c.loop-root.root-index c.root-item.result u n c.loop-root-test.true c.root-item.is
+    stands_after c.args.plain.now c.loop-root.root-index c.root-item.result u n c.loop-root-test.true c.root-item.is
     (λ same. false≢true (sym c.if-is_of.false ∙ (c.is_of.ensures
     ∙ eq-eqb (number_of t) (number_of u) (ap number_of same)))) (c.loop-root.invariant n s)
 

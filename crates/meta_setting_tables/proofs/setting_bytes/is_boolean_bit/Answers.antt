@@ -8,6 +8,6 @@ returns c =
     let h = c.in-Some.ensures in
     let shape = c.args.shape.now in
     let low = c.requires.bit in
-    subst (λ n. (nat_lt (c.in-Some.behind * 8 + n) shape.booleans ≡ true)
+    subst (λ n. (nat_lt (c.in-Some.after * 8 + n) shape.booleans ≡ true)
     ↔ IsBooleanBit shape.own_bytes shape.booleans c.args.byte c.args.bit) (sym c.from.ensures)
-    (boolean_bit shape.own_bytes shape.booleans c.args.byte c.args.bit c.in-Some.behind (omega (arith, h)) low)
+    (boolean_bit shape.own_bytes shape.booleans c.args.byte c.args.bit c.in-Some.after (omega (arith, h)) low)

@@ -7,7 +7,7 @@ use Rattle.meta_table_text.specs.OpcodeText.{flags_lines, entry_fields, entry_bl
 use Rattle.meta_table_reader.proofs.ItemsRead.{one_within}
 use Rattle.meta_table_reader.specs.Shown.{IsShownEntry, AreShownOpcodes}
 use Rattle.meta_table_reader.proofs.EntryBlocks.{block_at}
-use Rattle.meta_table_reader.proofs.ByOpcode.{behind, from_first, next_first, no_more, few_opcodes}
+use Rattle.meta_table_reader.proofs.ByOpcode.{opcodes_after, from_first, next_first, no_more, few_opcodes}
 use Rattle.meta_table_reader.proofs.entries.blocks.Goals as goal
 
 entry_some : (v : Version) (t : TableContents) (op : ℕ) (e : OpcodeNumbers) → 1 ≤ length (entry_block v t op e)
@@ -24,7 +24,7 @@ pub loop-init : goal.loop-init
 loop-init c = λ t rest shown count e.
     let all : c.args.count - 0 ≡ c.args.count = omega arith in
     let f = opcode_block c.args.version t in
-    (ap (map entry_of) c.new-entries.ensures.items, e ∙ ap (λ w. w ++ rest) (from_first f c.args.count ∙ ap (behind f 0) (sym all)))
+    (ap (map entry_of) c.new-entries.ensures.items, e ∙ ap (λ w. w ++ rest) (from_first f c.args.count ∙ ap (opcodes_after f 0) (sym all)))
 
 pub loop-preserved : goal.loop-preserved
 loop-preserved c = λ t rest shown count e.
@@ -34,7 +34,7 @@ loop-preserved c = λ t rest shown count e.
     let so_far = c.loop.invariant t rest shown count e in
     let within : i < c.args.count = omega (arith, c.loop-test.true, c.min-end.ensures) in
     let (entry, at, is_shown) = one_within (IsShownEntry v) t.entries i shown.entries (omega (arith, within, count)) in
-    let left = behind f (i + 1) (c.args.count - (i + 1)) ++ rest in
+    let left = opcodes_after f (i + 1) (c.args.count - (i + 1)) ++ rest in
     let front = next_first f rest i c.args.count c.loop.cursor within so_far.1 ∙ ap (λ w. w ++ left) (block_at v t i entry at.there) in
     let (read, after) = c.entry.ensures t (suc i) entry left shown.named.names shown.lists.constraints is_shown front in (
       ap (map entry_of) c.in_ok-push.ensures.items ∙ map-append entry_of c.loop.entries.items (c.entry.result ∷ [])

@@ -4,7 +4,7 @@ use Rattle.meta_table_text.specs.GroupText.{enumerators_text, descriptors_text, 
 use Rattle.meta_table_reader.specs.ShownGroup.{IsShownDescriptor, AreShownPresets}
 use Rattle.meta_table_reader.proofs.NameBytes.{name_ascii, name_lacks_dot}
 use Rattle.meta_table_reader.proofs.ShownBytes.{bytes_lack}
-use Rattle.meta_table_reader.proofs.TemplateLines.{template_lines, template_lines_are, before_defaults, behind_defaults, template_opened}
+use Rattle.meta_table_reader.proofs.TemplateLines.{template_lines, template_lines_are, before_defaults, after_defaults, template_opened}
 use Rattle.meta_table_reader.proofs.GroupsTold.{at_template, at_presets, at_slots, at_descriptors, at_enumerators, group_opened}
 use Rattle.meta_table_reader.proofs.groups.group.Goals as goal
 
@@ -26,9 +26,9 @@ returns c = λ g rest shown e.
     (subst (λ ds. AreShownPresets ds size g.preset_masks) same shown.presets)
     (f ∙ ap (λ ds. presets_text ds size g.preset_masks ++ at_template g rest) same) in
     let bytes = bytes_text g.defaults in
-    let k = c.skip_lines.ensures.item (template_lines g.name) (before_defaults ++ (bytes ++ (behind_defaults ++ rest)))
+    let k = c.skip_lines.ensures.item (template_lines g.name) (before_defaults ++ (bytes ++ (after_defaults ++ rest)))
     (template_lines_are g.name shown.name) refl (h ∙ template_opened g.name bytes rest) in
-    let (read, l) = c.until-shown.ensures.item bytes (behind_defaults ++ rest) (bytes_lack g.defaults shown.defaults) refl k in
+    let (read, l) = c.until-shown.ensures.item bytes (after_defaults ++ rest) (bytes_lack g.defaults shown.defaults) refl k in
     let defaults = c.in_ok-defaults.ensures g.defaults shown.defaults read in (
       record {
         name = sym name;

@@ -4,7 +4,7 @@ use Rattle.meta_types.specs.Name.{IsName}
 use Rattle.meta_inst.specs.Tables.{TableContents}
 use Rattle.meta_table_text.specs.OpcodeText.{format_line}
 use Rattle.meta_table_reader.proofs.ItemsRead.{one_within}
-use Rattle.meta_table_reader.proofs.ByOpcode.{behind, from_first, next_first, no_more, few_opcodes}
+use Rattle.meta_table_reader.proofs.ByOpcode.{opcodes_after, from_first, next_first, no_more, few_opcodes}
 use Rattle.meta_table_reader.proofs.FormatLines.{format_opened}
 use Rattle.meta_table_reader.proofs.NameBytes.{name_ascii, name_lacks_comma, name_lacks_end}
 use Rattle.meta_table_reader.proofs.opcode_parts.format_lines.Goals as goal
@@ -18,7 +18,7 @@ loop-init c = λ t rest named formatted names formats e.
     let all : c.args.count - 0 ≡ c.args.count = omega arith in (
       c.new-names.ensures.items,
       c.new-formats.ensures.items,
-      e ∙ ap (λ w. w ++ rest) (from_first (format_line t) c.args.count ∙ ap (behind (format_line t) 0) (sym all)),
+      e ∙ ap (λ w. w ++ rest) (from_first (format_line t) c.args.count ∙ ap (opcodes_after (format_line t) 0) (sym all)),
     )
 
 pub loop-preserved : goal.loop-preserved
@@ -28,7 +28,7 @@ loop-preserved c = λ t rest named formatted names formats e.
     let within : i < c.args.count = omega (arith, c.loop-test.true, c.min-end.ensures) in
     let (name, at_name, is_name) = one_within IsName t.names i named (omega (arith, within, names)) in
     let (format, at_format, is_format) = one_within IsName t.formats i formatted (omega (arith, within, formats)) in
-    let left = behind (format_line t) (i + 1) (c.args.count - (i + 1)) ++ rest in
+    let left = opcodes_after (format_line t) (i + 1) (c.args.count - (i + 1)) ++ rest in
     let front = next_first (format_line t) rest i c.args.count c.loop.cursor within so_far.2
     ∙ format_opened t i format name left at_format.there at_name.there in
     let (read_format, a) = c.in_ok-text.ensures.item format (codes ", // " ++ (name ++ (codes "\n" ++ left)))

@@ -5,7 +5,7 @@ use Rattle.std.specs.Int.{IsPowerOfTwo}
 use Rattle.std.specs.Option.{option_copied}
 use Rattle.meta_unique.specs.Probing.{IsVacant, IsTaken}
 use Rattle.meta_unique.specs.Slots.{IsFirstFree}
-use Rattle.meta_unique.proofs.Filling.{filling_start, filling_next, filling_end, filling_vacant, vacant_behind, vacant_shown, first_shown}
+use Rattle.meta_unique.proofs.Filling.{filling_start, filling_next, filling_end, filling_vacant, vacant_after, vacant_shown, first_shown}
 use Rattle.meta_unique.proofs.Filling.{vacant_contained}
 use Rattle.meta_unique.proofs.constant_hash.generate_table.Goals as goal
 
@@ -22,7 +22,7 @@ pub first_vacant-slot-requires-clause-vacant : goal.first_vacant-slot-requires-c
 first_vacant-slot-requires-clause-vacant g c =
     let left = filling_vacant _ c.args.items.now c.loop-item.item-index (map option_copied c.loop-item.table.items) c.loop-item.invariant
     (omega arith) in
-    (left.0, subst (λ slots. IsVacant slots left.0) (sym c.as_slice.ensures.value) (vacant_behind c.loop-item.table.items left.0 left.1))
+    (left.0, subst (λ slots. IsVacant slots left.0) (sym c.as_slice.ensures.value) (vacant_after c.loop-item.table.items left.0 left.1))
 
 pub place-requires : goal.place-requires
 place-requires g c =

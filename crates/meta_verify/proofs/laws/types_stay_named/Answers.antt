@@ -6,7 +6,7 @@ pub returns-clause-nothing : goal.returns-clause-nothing
 returns-clause-nothing c = nothing_named
 
 pub returns-clause-tables : goal.returns-clause-tables
-returns-clause-tables c = λ t env behind lines named h. leads_named (AllowedReply t) env behind lines named h
+returns-clause-tables c = λ t env after lines named h. leads_named (AllowedReply t) env after lines named h
 
 pub returns-clause-declared : goal.returns-clause-declared
-returns-clause-declared c = λ d env behind lines named h. leads_named (AcceptedReply d) env behind lines named h
+returns-clause-declared c = λ d env after lines named h. leads_named (AcceptedReply d) env after lines named h

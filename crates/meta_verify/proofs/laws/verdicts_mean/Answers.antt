@@ -9,7 +9,7 @@ returns-clause-verdict c = λ d t valid made means input is_rejection text h.
     verdict_means d.set t made means valid.set input is_rejection text h
 
 pub returns-clause-fed : goal.returns-clause-fed
-returns-clause-fed c = λ d t valid made means env named line answer behind. fed_means d t made means valid env named line answer behind
+returns-clause-fed c = λ d t valid made means env named line answer after. fed_means d t made means valid env named line answer after
 
 pub returns-clause-led : goal.returns-clause-led
-returns-clause-led c = λ d t valid made means env named lines behind. led_means d t made means valid env named lines behind
+returns-clause-led c = λ d t valid made means env named lines after. led_means d t made means valid env named lines after

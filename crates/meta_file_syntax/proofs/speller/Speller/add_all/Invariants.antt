@@ -1,7 +1,7 @@
 use Rattle.std.proofs.Common.{◌≡◌, ◌++◌, drop, []}
-use Rattle.meta_file_syntax.specs.Spelling.{each_behind}
+use Rattle.meta_file_syntax.specs.Spelling.{each_after}
 use Rattle.meta_file_syntax.proofs.speller.Speller.add_all.Given as goal
 
 abbrev pub invariant-loop-part : goal.invariant-loop-part
-invariant-loop-part g l = l.self.tokens.items ++ each_behind [] g.T.Spelled.tokens (drop l.part-index l.parts)
-    ≡ l.fn.self.tokens.items ++ each_behind [] g.T.Spelled.tokens l.parts
+invariant-loop-part g l = l.self.tokens.items ++ each_after [] g.T.Spelled.tokens (drop l.part-index l.parts)
+    ≡ l.fn.self.tokens.items ++ each_after [] g.T.Spelled.tokens l.parts

@@ -8,8 +8,8 @@ use Rattle.meta_gen.proofs.opcode_tables.OpcodeTables.constraints.Goals as goal
 
 pub returns-clause-entry : goal.returns-clause-entry
 returns-clause-entry c =
-    let behind : 0 < c.args.opcode = omega arith in
-    let read = entry_read c.deref.result.now c.args.opcode c.get.result behind c.get.ensures.lookup.3 in
+    let after : 0 < c.args.opcode = omega arith in
+    let read = entry_read c.deref.result.now c.args.opcode c.get.result after c.get.ensures.lookup.3 in
     let entries = ap (map entry_of) c.deref.ensures.value ∙ ap (λ (t : TableContents). t.entries) c.self.view_is in
     rw c.copied.ensures (subst (λ (es : List OpcodeNumbers). IfSome (option_copied c.get.result)
     (λ e. at_opcode es c.args.opcode ≡ Some (entry_of e))) entries read)

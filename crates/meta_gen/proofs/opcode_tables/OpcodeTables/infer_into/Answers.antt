@@ -48,11 +48,11 @@ returns-clause-rest c =
     let past = c.loop-k-test.false in
     let within = c.loop-k.auto.k-end in
     same_rest c.loop-k.numbers c.args.out.now c.result_count-count.result c.loop-k.invariant.same
-    (λ j behind inside. c.loop-k.invariant.rest j (omega arith))
+    (λ j after inside. c.loop-k.invariant.rest j (omega arith))
 
 pub loop-k-init : goal.loop-k-init
 loop-k-init c =
-    record { long = search rules; same = refl; given = λ j below. absurd (omega (arith, below)); rest = λ j behind. refl }
+    record { long = search rules; same = refl; given = λ j below. absurd (omega (arith, below)); rest = λ j after. refl }
 
 -- ---- nothing is given, and nothing was written
 

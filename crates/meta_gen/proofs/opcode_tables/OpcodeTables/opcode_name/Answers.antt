@@ -11,18 +11,18 @@ returns-then-opcode-eq0-clause-none c = ap (at_opcode c.args.self.now.names) c.i
 
 pub returns-clause-opcode : goal.returns-clause-opcode
 returns-clause-opcode c =
-    let behind : 0 < c.args.opcode = omega arith in
-    text_found c.deref.result.now c.args.opcode _ c.get.result behind (ap length c.deref.ensures.value
+    let after : 0 < c.args.opcode = omega arith in
+    text_found c.deref.result.now c.args.opcode _ c.get.result after (ap length c.deref.ensures.value
     ∙ c.self.invariant.well_formed.parts.named ∙ ap (λ (t : TableContents). length t.entries) c.self.view_is) c.get.ensures.lookup.3
 
 pub returns-clause-name : goal.returns-clause-name
 returns-clause-name c =
-    let behind : 0 < c.args.opcode = omega arith in
-    text_is c.deref.result.now c.args.self.now.names c.args.opcode c.get.result behind (c.deref.ensures.value
+    let after : 0 < c.args.opcode = omega arith in
+    text_is c.deref.result.now c.args.self.now.names c.args.opcode c.get.result after (c.deref.ensures.value
     ∙ ap (λ (t : TableContents). t.names) c.self.view_is) c.get.ensures.lookup.3
 
 pub returns-clause-none : goal.returns-clause-none
 returns-clause-none c =
-    let behind : 0 < c.args.opcode = omega arith in
-    no_text c.deref.result.now c.args.self.now.names c.args.opcode c.get.result behind (c.deref.ensures.value
+    let after : 0 < c.args.opcode = omega arith in
+    no_text c.deref.result.now c.args.self.now.names c.args.opcode c.get.result after (c.deref.ensures.value
     ∙ ap (λ (t : TableContents). t.names) c.self.view_is) c.get.ensures.lookup.3

@@ -11,7 +11,7 @@ returns-in_err-controls-clause-none c =
 pub returns-clause-found : goal.returns-clause-found
 returns-clause-found c = λ line pieces named.
     asks_inference line _ _ c.in_ok-controls.controls.control c.in_ok-controls.controls.second c.in_ok-controls.ensures.known
-    c.in_ok-controls.ensures.second_known c.in_ok-controls.ensures.behind pieces named c.in_ok-controls.ensures.found
+    c.in_ok-controls.ensures.second_known c.in_ok-controls.ensures.after pieces named c.in_ok-controls.ensures.found
 
 pub returns-clause-none : goal.returns-clause-none
 returns-clause-none c = λ line pieces. tt

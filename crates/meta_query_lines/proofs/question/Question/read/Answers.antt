@@ -21,7 +21,7 @@ returns-clause-found c =
     let values : c.in_ok-read_types-2.field-0 ≡ true = search rules in
     λ e line pieces named. asks line _ _ _ _ c.in-Some.controls.control c.in-Some.controls.second
     c.read_types.new.numbers.items c.read_types-2.new.numbers.items
-    c.in-Some.ensures.known c.in-Some.ensures.second_known c.in-Some.ensures.behind c.in_ok-read_types.ensures.known
+    c.in-Some.ensures.known c.in-Some.ensures.second_known c.in-Some.ensures.after c.in_ok-read_types.ensures.known
     c.in_ok-read_types-2.ensures.known
     pieces named
     c.in-Some.ensures.found (c.in_ok-read_types.ensures.found results) (c.in_ok-read_types-2.ensures.found values)

@@ -6,8 +6,8 @@ use Rattle.meta_settings.specs.PresetLayout.{boolean_name}
 use Rattle.meta_settings.proofs.preset.SettingNamesIterator.next.Goals as goal
 
 -- the numbers after the first are below the bound, as all are
-all_behind : (n : ℕ) (numbers rest : List ℕ) (number : ℕ) → numbers ≡ number ∷ rest → All (λ b. b < n) numbers → All (λ b. b < n) rest
-all_behind n numbers rest number e h = λ k d l. subst (λ ns. All (λ b. b < n) ns) e h (suc k) d (omega (arith, l))
+all_after : (n : ℕ) (numbers rest : List ℕ) (number : ℕ) → numbers ≡ number ∷ rest → All (λ b. b < n) numbers → All (λ b. b < n) rest
+all_after n numbers rest number e h = λ k d l. subst (λ ns. All (λ b. b < n) ns) e h (suc k) d (omega (arith, l))
 
 first_below : (n : ℕ) (numbers rest : List ℕ) (number : ℕ) → numbers ≡ number ∷ rest → All (λ b. b < n) numbers → number < n
 first_below n numbers rest number e h = subst (λ ns. All (λ b. b < n) ns) e h zero 0 (omega arith)
@@ -18,7 +18,7 @@ name_of booleans n s l is = ap (λ o. unwrap_or (option_map (λ (s : PlacedSetti
     (slice_get_read booleans (length booleans) n s refl l is)
 
 pub invariant_of-self : goal.invariant_of-self
-invariant_of-self c = all_behind _ _ _ _ c.in_ok-number.ensures.cases.0 c.self.invariant
+invariant_of-self c = all_after _ _ _ _ c.in_ok-number.ensures.cases.0 c.self.invariant
 
 pub returns-clause-steps : goal.returns-clause-steps
 returns-clause-steps c =

@@ -1,6 +1,6 @@
 use Rattle.std.proofs.Common.{◌<◌, ◌≤◌, ◌+◌, ◌++◌, ◌∙◌, IsTrue, length, ap, sym, drop, add-one, arith}
 use Rattle.std.specs.List.{flat_map}
-use Rattle.meta_table_reader.specs.Spans.{is_line, behind_line, behind_lines}
+use Rattle.meta_table_reader.specs.Spans.{is_line, after_line, after_lines}
 use Rattle.meta_table_reader.proofs.Ends.{line_some, one_line_more, lines_passed}
 use Rattle.meta_table_reader.proofs.ItemsRead.{one_within, front, only_rest_left, few_items}
 use Rattle.std.proofs.lemmas.List.Elements.{All-weaker}
@@ -15,8 +15,8 @@ loop-preserved c = record {
       let (line, at, is) = one_within (λ line. IsTrue (is_line line)) lines i shown within in
       c.skip_line.ensures.item line (flat_map (λ line. line) (drop (i + 1) lines) ++ rest) is
       (front (λ line. line) lines rest c.loop.self i line at left);
-  left = c.skip_line.ensures.left ∙ ap behind_line c.loop.invariant.left ∙ sym (one_line_more c.loop.counter _)
-      ∙ ap (λ n. behind_lines n c.args.self.now) (sym (add-one c.loop.counter));
+  left = c.skip_line.ensures.left ∙ ap after_line c.loop.invariant.left ∙ sym (one_line_more c.loop.counter _)
+      ∙ ap (λ n. after_lines n c.args.self.now) (sym (add-one c.loop.counter));
 }
 
 pub returns-clause-item : goal.returns-clause-item

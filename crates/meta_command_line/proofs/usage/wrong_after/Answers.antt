@@ -2,7 +2,7 @@ use Rattle.std.proofs.Common.{◌≡◌, ◌∙◌, sym, ap, subst, string_bytes
 use Rattle.std.proofs.lemmas.Result.{IfOk-weaker}
 use Rattle.meta_command_line.specs.Usage.{IsShownAt, misuse_text}
 use Rattle.meta_command_line.specs.declared.misuse.Misuse.TheVariants.{NoNumber, WordTooMany}
-use Rattle.meta_command_line.proofs.usage.wrong_behind.Goals as goal
+use Rattle.meta_command_line.proofs.usage.wrong_after.Goals as goal
 
 pub returns-in-NoNumber : goal.returns-in-NoNumber
 returns-in-NoNumber c =
@@ -14,7 +14,7 @@ returns-in-NoNumber c =
       name_shown = name;
       shows_name = c.in_ok-name.ensures;
       word_shown = word;
-      shows_word = subst (λ place. IsShownAt c.args.behind.now place word) c.place.ensures c.in_ok-word.ensures;
+      shows_word = subst (λ place. IsShownAt c.args.after.now place word) c.place.ensures c.in_ok-word.ensures;
       is = is ∙ ap (λ m. misuse_text m name word) (sym c.in-NoNumber.is);
     })
     c.format-in-NoNumber.ensures.ok
@@ -29,7 +29,7 @@ returns-in-WordTooMany c =
       name_shown = name;
       shows_name = c.in_ok-name.ensures;
       word_shown = word;
-      shows_word = subst (λ place. IsShownAt c.args.behind.now place word) c.place.ensures c.in_ok-word.ensures;
+      shows_word = subst (λ place. IsShownAt c.args.after.now place word) c.place.ensures c.in_ok-word.ensures;
       is = is ∙ ap (λ m. misuse_text m name word) (sym c.in-WordTooMany.is);
     })
     c.format-in-WordTooMany.ensures.ok

@@ -4,7 +4,7 @@ use Rattle.std.proofs.Common.{None, Some, IfSome, IfNone, refl, subst, sym, ap, 
 use Rattle.std.proofs.lemmas.Bool.{cases_lt}
 use Rattle.std.proofs.lemmas.List.{take_all}
 use Rattle.std.proofs.lemmas.Option.{same_Some}
-use Rattle.meta_command_line.specs.Misuse.{IsNumberIn, AreNumbersTo, AreNumbersIn, NamesNoneBefore, IsFirstNamed, AreTaken, IsMisuseBehind}
+use Rattle.meta_command_line.specs.Misuse.{IsNumberIn, AreNumbersTo, AreNumbersIn, NamesNoneBefore, IsFirstNamed, AreTaken, IsMisuseAfter}
 use Rattle.meta_command_line.specs.Misuse.{IsMisuseOf, IsMisuse}
 use Rattle.meta_command_line.specs.declared.manual.CommandForm.{CommandForm}
 use Rattle.meta_command_line.specs.declared.manual.Range.{Range}
@@ -56,40 +56,40 @@ own_name commands name command h = record {
 }
 
 -- if the words after the name of a command are its numbers, the words are taken
-pub taken_behind : (commands : List CommandForm) (words : List (List ℕ)) (name : List ℕ) (behind : List (List ℕ))
-    (command : CommandForm) (misuse : Option Misuse) → words ≡ name ∷ behind → IsFirstNamed commands name command
-    → IfNone misuse (AreNumbersIn command.numbers.now behind) → IfNone misuse (AreTaken commands words)
-taken_behind commands words name behind command None are named h =
+pub taken_after : (commands : List CommandForm) (words : List (List ℕ)) (name : List ℕ) (after : List (List ℕ))
+    (command : CommandForm) (misuse : Option Misuse) → words ≡ name ∷ after → IsFirstNamed commands name command
+    → IfNone misuse (AreNumbersIn command.numbers.now after) → IfNone misuse (AreTaken commands words)
+taken_after commands words name after command None are named h =
     let own = own_name commands name command named in
     record {
       are = record {
         command = command;
-        behind = behind;
-        are = are ∙ ap (λ (n : List ℕ). n ∷ behind) (sym named.named.name_is);
+        after = after;
+        are = are ∙ ap (λ (n : List ℕ). n ∷ after) (sym named.named.name_is);
         named = own.named;
         numbers = h;
       };
       first = own.first;
     }
-taken_behind commands words name behind command (Some m) are named h = tt
+taken_after commands words name after command (Some m) are named h = tt
 
 -- what is wrong after the name of a command is wrong with the words
-pub misuse_behind : (commands : List CommandForm) (words : List (List ℕ)) (name : List ℕ) (behind : List (List ℕ))
-    (command : CommandForm) (misuse : Option Misuse) → words ≡ name ∷ behind → IsFirstNamed commands name command
-    → IfSome misuse (IsMisuseBehind command.numbers.now behind) → IfSome misuse (IsMisuse commands words)
-misuse_behind commands words name behind command None are named h = tt
-misuse_behind commands words name behind command (Some m) are named h = by_case m h
+pub misuse_after : (commands : List CommandForm) (words : List (List ℕ)) (name : List ℕ) (after : List (List ℕ))
+    (command : CommandForm) (misuse : Option Misuse) → words ≡ name ∷ after → IsFirstNamed commands name command
+    → IfSome misuse (IsMisuseAfter command.numbers.now after) → IfSome misuse (IsMisuse commands words)
+misuse_after commands words name after command None are named h = tt
+misuse_after commands words name after command (Some m) are named h = by_case m h
   where
-    of_command : (m : Misuse) → IsMisuseBehind command.numbers.now behind m → IsMisuseOf commands words m
+    of_command : (m : Misuse) → IsMisuseAfter command.numbers.now after m → IsMisuseOf commands words m
     of_command m h = record {
       command = command;
-      behind = behind;
-      are = are ∙ ap (λ (n : List ℕ). n ∷ behind) (sym named.named.name_is);
+      after = after;
+      are = are ∙ ap (λ (n : List ℕ). n ∷ after) (sym named.named.name_is);
       named = own_name commands name command named;
       misuse = h;
     }
 
-    by_case : (m : Misuse) → IsMisuseBehind command.numbers.now behind m → IsMisuse commands words m
+    by_case : (m : Misuse) → IsMisuseAfter command.numbers.now after m → IsMisuse commands words m
     by_case NoWord h = absurd h
     by_case NoCommand h = absurd h
     by_case (NoNumber k) h = of_command (NoNumber k) h

@@ -7,7 +7,7 @@ use Rattle.meta_types.specs.DerivedFunc.{function_of}
 use Rattle.meta_typevar.specs.Registry.{variable_from, IsKept, IsRegistry, IsRootOrDerived}
 use Rattle.meta_typevar.specs.declared.content.TypeVarContent.{TypeVarContent}
 use Rattle.meta_typevar.specs.declared.content.TypeVarParent.{TypeVarParent}
-use Rattle.meta_file_types.specs.Depth.{depth_at, IsBehind}
+use Rattle.meta_file_types.specs.Depth.{depth_at, IsAfter}
 
 depth_kept : (vars : List TypeVarContent) (n : ℕ) (c : TypeVarContent) → IsKept vars n c → depth_at vars n ≡ length c.chain
 depth_kept vars n c kept = ap (λ (o : Option TypeVarContent). length (variable_from n o).chain) kept
@@ -22,10 +22,10 @@ module _ (vars : List TypeVarContent) (n : ℕ) (c : TypeVarContent) (kept : IsK
   at_root e = depth_kept vars n c kept ∙ by_root c.base (h.variables n c kept).placed e
 
   -- what has one
-  by_parent : (b : Option TypeVarParent) (p : TypeVarParent) → IsRootOrDerived vars n c b → b ≡ Some p → IsBehind vars n p.type_var
+  by_parent : (b : Option TypeVarParent) (p : TypeVarParent) → IsRootOrDerived vars n c b → b ≡ Some p → IsAfter vars n p.type_var
   by_parent None p d e = absurd (cc)
   by_parent (Some q) p d e =
-      subst (λ (x : TypeVarParent). IsBehind vars n x.type_var) (same_Some q p e)
+      subst (λ (x : TypeVarParent). IsAfter vars n x.type_var) (same_Some q p e)
       (record {
         of = slice_get_within vars q.type_var d.parent_content d.kept;
         depth = depth_kept vars n c kept
@@ -33,5 +33,5 @@ module _ (vars : List TypeVarContent) (n : ℕ) (c : TypeVarContent) (kept : IsK
             ∙ ap (λ (k : ℕ). k + 1) (sym (depth_kept vars q.type_var d.parent_content d.kept))));
       })
 
-  pub behind : (p : TypeVarParent) → c.base ≡ Some p → IsBehind vars n p.type_var
-  behind p e = by_parent c.base p (h.variables n c kept).placed e
+  pub after : (p : TypeVarParent) → c.base ≡ Some p → IsAfter vars n p.type_var
+  after p e = by_parent c.base p (h.variables n c kept).placed e

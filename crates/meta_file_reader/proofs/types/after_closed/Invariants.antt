@@ -1,6 +1,6 @@
 use Rattle.std.proofs.Common.{◌≡◌, ◌-◌}
 use Rattle.meta_file_reader.specs.SetReading.{closed_at}
-use Rattle.meta_file_reader.proofs.types.behind_closed.Given as goal
+use Rattle.meta_file_reader.proofs.types.after_closed.Given as goal
 
 -- what is still read
 abbrev pub invariant-loop : goal.invariant-loop

@@ -1,6 +1,6 @@
 use Rattle.std.proofs.lemmas.Result.{err_from_is_err_and}
 use Rattle.meta_file_reader.proofs.ClosedLoop.{goes_on, fails, ends_here}
-use Rattle.meta_file_reader.proofs.types.behind_closed.Goals as goal
+use Rattle.meta_file_reader.proofs.types.after_closed.Goals as goal
 
 pub returns-in_err-rest : goal.returns-in_err-rest
 returns-in_err-rest c =
