@@ -1,5 +1,5 @@
 -- The faults of declarations, and the order in which they are looked for.
---     HasFaultAt d p e          the declarations have the fault e at the position p
+--     HasFaultAt d p e        the declarations have the fault e at the position p
 --     IsFirstFault d e       e is the first fault that they have
 --     IsValid d              they have no fault
 use Rattle.std.specs.Prelude.{◌≡◌, ◌≢◌, ◌<◌, ◌+◌, ◌⊎◌, ℕ, List, [], length, map, slice_get, Option, Some}

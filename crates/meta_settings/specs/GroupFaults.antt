@@ -1,5 +1,5 @@
 -- The faults of a declared group, and the order in which they are looked for.
---     GroupHasFaultAt d g p e       the group with the number g has the fault e at the position p
+--     GroupHasFaultAt d g p e    the group with the number g has the fault e at the position p
 --     IsFirstGroupFault d g e    e is the first fault of the group
 --     IsValidGroup d             it has no fault
 use Rattle.std.specs.Prelude.{◌≡◌, ◌≢◌, ◌<◌, ◌≤◌, ◌-◌, ◌⊎◌, ℕ, List, [], length, slice_get, Some, IfSome, All, unwrap_or}
