@@ -2,7 +2,7 @@
 # Counts the instructions of the processor that the writer of lists takes for a line, in both directions, at two sizes:
 #   bench/asm.sh
 # The lines are those of bench/verify.sh: the queries of bench/queries.txt that are accepted, one for each of the 163 instructions,
-# again and again, behind parameters of all types that they use. `short` leaves their types out, and `explicit` writes what came of
+# again and again, after parameters of all types that they use. `short` leaves their types out, and `explicit` writes what came of
 # it back. The program `ciderlater` is proved and built first where that is still to be done. Instructions
 # are counted by `valgrind --tool=callgrind`. The status is 1 where a run fails or doesn't give the list back, or where a line of the
 # greater list takes a quarter more instructions than one of the smaller, and 125 where the program couldn't be built or there is no
@@ -23,7 +23,7 @@ trap 'rm -rf "$folder"' EXIT
 "$program" query < "$top/bench/queries.txt" > "$folder/answers" || exit 1
 paste -d' ' "$folder/answers" "$top/bench/queries.txt" | sed -n 's/^accept accept /accept /p' > "$folder/accepted"
 
-# A parameter for each type of a value, and so many lines behind them.
+# A parameter for each type of a value, and so many lines after them.
 list() {
     awk -v times="$1" '
         { name[NR - 1] = $2; control[NR - 1] = $3; results[NR - 1] = $4; values[NR - 1] = $5 }

@@ -48,7 +48,7 @@ compare() {
     }'
 }
 
-# The calls of the test of a number in a file of callgrind, which names a function once, behind its number.
+# The calls of the test of a number in a file of callgrind, which names a function once, after its number.
 tests() {
     awk '/^c?fn=\(/ {
              id = $0; sub(/^c?fn=/, "", id); sub(/\).*/, ")", id)
@@ -59,7 +59,7 @@ tests() {
          END { print sum + 0 }' "$1"
 }
 
-# What an audit of the text that the lines write, the other words, takes, behind a name. It fails where that is 20 million instructions.
+# What an audit of the text that the lines write, the other words, takes, after a name. It fails where that is 20 million instructions.
 over_text() {
     name=$1
     shift
@@ -70,7 +70,7 @@ over_text() {
     [ "$count" -lt 20000000 ]
 }
 
-# What a run of the rows over the input does, behind a name, with fewer tests than so many.
+# What a run of the rows over the input does, after a name, with fewer tests than so many.
 over_rows() {
     valgrind --tool=callgrind --callgrind-out-file="$folder/calls" "$rows" < "$folder/input" > "$folder/out" 2> "$folder/log" || return 1
     count=$(tests "$folder/calls")

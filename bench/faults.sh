@@ -4,7 +4,7 @@
 # For each command, all of them where none is named, it prints how many requests were refused, and, with reads and writes of 1, 3 and
 # 4,096 bytes, how many reads and writes were failed, and how those runs ended. A refused request has to end with 5 and nothing
 # written, or, where the run can do without, with 0 and all written. A failed read has to end with 3 and nothing written; a failed
-# write with 4, and nothing written behind it. What the run writes where nothing fails is compared with what it writes without all
+# write with 4, and nothing written after it. What the run writes where nothing fails is compared with what it writes without all
 # this. The declarations, the tables and the texts are made in each run, so their requests for memory are among those that are
 # refused, and in `recheck` those of the tables that are read.
 #
@@ -60,7 +60,7 @@ __attribute__((constructor)) static void begin(void)
     ready = 1;
 }
 
-/* Whether a copy that was refused ended as it has to: with the status and nothing written behind what was, which is nothing but at
+/* Whether a copy that was refused ended as it has to: with the status and nothing written after what was, which is nothing but at
    a write; or, at a request for memory, with 0 and all written. */
 static int is_right(int end, int status, unsigned long before)
 {
@@ -191,7 +191,7 @@ fail_each() {
     case $1 in
         memory) what="requests for memory refused: $(counts $((tried - whole - wrong))) ended with 5 and nothing written, $(counts "$whole") with 0 and all written" ;;
         reads) what="reads failed, with steps of $2: $(counts $((tried - wrong))) ended with 3 and nothing written" ;;
-        writes) what="writes failed, with steps of $2: $(counts $((tried - wrong))) ended with 4 and nothing written behind" ;;
+        writes) what="writes failed, with steps of $2: $(counts $((tried - wrong))) ended with 4 and nothing written after it" ;;
     esac
     [ "$1 $tried" = 'reads 0' ] || printf '%s: %s %s\n' "$command" "$(counts "$tried")" "$what"
     if [ $status -ne 0 ] || ! cmp -s "$folder/whole" "$folder/got" || [ "$wrong" -ne 0 ]; then

@@ -129,7 +129,7 @@ def sets(size):
 
 
 def hashed(start, name):
-    """What `simple_hash` makes of a name behind what it made of those before."""
+    """What `simple_hash` makes of a name after what it made of those before."""
     h = start
     for byte in name:
         h = ((h ^ byte) + (h >> 6 | h << 26)) & 0xFFFFFFFF

@@ -5,7 +5,7 @@
 
 top=$(cd "$(dirname "$0")/.." && pwd) || exit 125
 
-# Sets `program` to the program of a crate, which runs with the words behind. Where it can't be built, the script ends with 125.
+# Sets `program` to the program of a crate, which runs with the words after it. Where it can't be built, the script ends with 125.
 built() {
     crate=$1
     shift

@@ -30,7 +30,7 @@ queries() {
     awk -v times="$1" '{ line[NR - 1] = $0 } END { for (k = 0; k < times; k++) print line[k % NR] }' "$folder/accepted"
 }
 
-# A parameter for each type of a value, and so many lines behind them, or as many as the input has room for.
+# A parameter for each type of a value, and so many lines after them, or as many as the input has room for.
 list() {
     awk -v times="$1" '
         { name[NR - 1] = $2; control[NR - 1] = $3; results[NR - 1] = $4; values[NR - 1] = $5 }
