@@ -1,4 +1,4 @@
-mod After
+mod AfterName
 mod First
 mod Line
 mod Numbers

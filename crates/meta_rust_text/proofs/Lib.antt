@@ -12,6 +12,6 @@ pub mod BuiltOperands
 -- templates
 mod Templates
 mod After
-mod After
 mod TypeTexts
 mod Sizes
+mod WithBefore
