@@ -21,7 +21,7 @@ documents() {
         /^$/ { list = 0 }
         /^    / && !list { next }
         { text = $0; gsub(/``[^`]*`[^`]*`[^`]*``/, "", text); gsub(/`[^`]*`/, "", text); print FILENAME ":" FNR ": " text "\t" $0 }
-    ' README.md CONTRIBUTING.md docs/*.md examples/README.md
+    ' README.md CONTRIBUTING.md docs/*.md examples/README.md editors/README.md
 }
 
 # The comments of code, from two slashes on, and of definitions and proofs, from two hyphens on, in lines that have such words.

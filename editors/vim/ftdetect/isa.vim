@@ -1,0 +1,2 @@
+" Ciderlater's files of declarations
+autocmd BufNewFile,BufRead *.isa setfiletype isa
