@@ -223,7 +223,7 @@ apart r m a h plain can e =
 pub one_parameter : (r q : TypedValue) → IsTyped r → IsTyped q → parameter_text r ≡ parameter_text q → r ≡ q
 one_parameter r q h k e =
     let texts : value_text r.value ++ then_part 32 (Some (name_of r.type))
-            ≡ value_text q.value ++ then_part 32 (Some (name_of q.type)) = cc in
+    ≡ value_text q.value ++ then_part 32 (Some (name_of q.type)) = cc in
     let both = one_split 32 (value_text r.value) (value_text q.value) (Some (name_of r.type)) (Some (name_of q.type))
     (value_lacks 32 r.value space h.value) (value_lacks 32 q.value space k.value) texts in
     let value = one_written_value r.value q.value h.value k.value both.0 in
