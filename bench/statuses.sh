@@ -10,6 +10,7 @@ trap 'rm -rf "$room"' EXIT
 cd "$room" || exit 1
 cp "$top/examples/first.txt" "$top/examples/list.txt" "$top/examples/twelve.isa" . || exit 1
 : > empty
+mkdir folder.isa || exit 1
 printf 'type Int: ints 8..64\n/' > wrong.isa
 sed 's/v4:i64/v4:i32/' list.txt > wrong.txt
 head -c 1048577 /dev/zero | tr '\0' '\n' > long.txt
@@ -90,5 +91,16 @@ done << 'RUNS'
 6 empty out ciderlater check long.txt
 7 empty out ciderlater -d twelve.isa tables --version 1
 8 empty out ciderlater check none.isa
+8 empty out ciderlater -d none.isa tables
+8 empty out ciderlater -d folder.isa tables
 RUNS
+# Each line is FILE and what standard error says of it.
+while read -r file why; do
+    ran empty out "$folder/ciderlater" check "$file"
+    [ "$(cat said)" = "ciderlater: $file $why" ] || differs "ciderlater check $file said on standard error: $(cat said)"
+done << 'FILES'
+none.isa is missing
+folder.isa is a folder
+long.txt is longer than 1048576 bytes
+FILES
 echo "$count runs of ciderlater and of the programs of top calls ended with the statuses that docs/COMMANDS.md has"

@@ -50,14 +50,14 @@ fn tell_ending(rt: &HostRuntime, tool: Tool, ending: Ending) {
     }
 }
 
-fn tell_trouble(rt: &HostRuntime, trouble: Option<FileTrouble>, path: &Text) {
-    if let Some(trouble) = trouble {
-        tell_made(rt, trouble.line(rt.alloc(), path), Ending::OutOfMemory);
-    }
+fn tell_trouble(rt: &HostRuntime, trouble: FileTrouble, path: &Text) {
+    tell_made(rt, trouble.line(rt.alloc(), path), Ending::OutOfMemory);
 }
 
 fn tell_file_ending(rt: &HostRuntime, tool: Tool, ending: &FileEnding, path: &Text) {
-    tell_trouble(rt, FileTrouble::of(ending), path);
+    if let Some(trouble) = FileTrouble::of(ending) {
+        tell_trouble(rt, trouble, path);
+    }
     match ending {
         FileEnding::Ran(ending) => tell_ending(rt, tool, *ending),
         FileEnding::Refused(message) => tell_message(rt, message.as_slice()),
@@ -87,10 +87,19 @@ fn run_shared(rt: &HostRuntime, tool: Tool) -> Ending {
     }
 }
 
-fn run_over(rt: &HostRuntime, path: &Text, tool: Tool) -> FileEnding {
-    let Ok(file) = File::open(rt, path.as_str()) else {
-        return FileEnding::FileFault;
+/// Opens the file at a path to read it.
+fn opened(rt: &HostRuntime, path: &Text) -> Result<File, FileTrouble> {
+    let file = match File::open(rt, path.as_str()) {
+        Ok(file) => file,
+        Err(error) => return Err(FileTrouble::of_open(error.kind())),
     };
+    match file.metadata() {
+        Ok(found) if found.is_dir() => Err(FileTrouble::Folder),
+        _ => Ok(file),
+    }
+}
+
+fn run_over(rt: &HostRuntime, file: File, path: &Text, tool: Tool) -> FileEnding {
     let mut file = StdSource::new(file);
     let mut source = StdSource::new(rt.reader());
     let mut sink = StdSink::new(io::writer(rt));
@@ -104,14 +113,8 @@ fn run_over(rt: &HostRuntime, path: &Text, tool: Tool) -> FileEnding {
     )
 }
 
-/// Checks the file at a path. Names that Rust refuses are reported, or the file is refused for them.
-fn check_over(rt: &HostRuntime, path: &Text, names: Names) -> Checked {
-    let Ok(file) = File::open(rt, path.as_str()) else {
-        return Checked {
-            ending: FileEnding::FileFault,
-            names: Vec::new(rt.alloc()),
-        };
-    };
+/// Checks a file. Names that Rust refuses are reported, or the file is refused for them.
+fn check_over(rt: &HostRuntime, file: File, path: &Text, names: Names) -> Checked {
     let mut file = StdSource::new(file);
     let mut source = StdSource::new(rt.reader());
     let mut sink = StdSink::new(io::writer(rt));
@@ -131,16 +134,32 @@ fn answer_shared(rt: &HostRuntime, tool: Tool) -> u8 {
     ending.code()
 }
 
+/// The status if the file can't be opened, after saying why.
+fn answer_unopened(rt: &HostRuntime, trouble: FileTrouble, path: &Text) -> u8 {
+    tell_trouble(rt, trouble, path);
+    FileEnding::FileFault.code()
+}
+
 fn answer_over(rt: &HostRuntime, path: &Text, tool: Tool) -> u8 {
-    let ending = run_over(rt, path, tool);
-    tell_file_ending(rt, tool, &ending, path);
-    ending.code()
+    match opened(rt, path) {
+        Ok(file) => {
+            let ending = run_over(rt, file, path, tool);
+            tell_file_ending(rt, tool, &ending, path);
+            ending.code()
+        }
+        Err(trouble) => answer_unopened(rt, trouble, path),
+    }
 }
 
 fn answer_check(rt: &HostRuntime, path: &Text, names: Names) -> u8 {
-    let checked = check_over(rt, path, names);
-    tell_check(rt, &checked, path);
-    checked.ending.code()
+    match opened(rt, path) {
+        Ok(file) => {
+            let checked = check_over(rt, file, path, names);
+            tell_check(rt, &checked, path);
+            checked.ending.code()
+        }
+        Err(trouble) => answer_unopened(rt, trouble, path),
+    }
 }
 
 /// Does what the words ask. The status is that of the ending.

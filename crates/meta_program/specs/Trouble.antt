@@ -4,7 +4,7 @@ use Rattle.std.specs.Prelude.{ℕ, List, ◌++◌, Option, None, Some, codes}
 use Rattle.meta_program.specs.declared.file_ending.FileEnding.{FileEnding}
 use Rattle.meta_program.specs.declared.file_ending.FileEnding.TheVariants.{Ran, NamesRefused, Refused, FileFault, FileTooLong}
 use Rattle.meta_program.specs.declared.file_trouble.FileTrouble.{FileTrouble}
-use Rattle.meta_program.specs.declared.file_trouble.FileTrouble.TheVariants.{Unread, TooLong}
+use Rattle.meta_program.specs.declared.file_trouble.FileTrouble.TheVariants.{Missing, Forbidden, Folder, Unread, TooLong}
 
 -- why a file wasn't read whole, by how a run over it or a check of it ended
 abbrev pub trouble_of : FileEnding → Option FileTrouble
@@ -16,5 +16,8 @@ trouble_of FileTooLong = Some TooLong
 
 -- the text on it
 abbrev pub trouble_text : FileTrouble → List ℕ → List ℕ
+trouble_text Missing path = path ++ codes " is missing"
+trouble_text Forbidden path = path ++ codes " may not be read"
+trouble_text Folder path = path ++ codes " is a folder"
 trouble_text Unread path = path ++ codes " could not be read"
 trouble_text TooLong path = path ++ codes " is longer than 1048576 bytes"
