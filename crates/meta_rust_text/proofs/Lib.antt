@@ -15,3 +15,5 @@ mod After
 mod TypeTexts
 mod Sizes
 mod WithBefore
+-- the type parameters of operands, counted
+mod Numbered

@@ -24,6 +24,7 @@ mod instructions;
 mod method_arguments;
 mod method_docs;
 mod names;
+mod numbering;
 mod operands;
 mod parent_group;
 mod results;

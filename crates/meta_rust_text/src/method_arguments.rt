@@ -1,8 +1,10 @@
-ghost use Rattle.std.specs.Prelude.{◌≡◌, ◌++◌, [], IfOk, OnOk, string_bytes};
-ghost use Rattle.meta_rust_text.specs.MethodArguments.{each_with_before, operand_arguments, control_argument, self_argument};
-ghost use Rattle.meta_rust_text.specs.MethodArguments.{arguments_text};
+ghost use Rattle.std.specs.Prelude.{◌≡◌, ◌+◌, ◌++◌, List, [], IfOk, OnOk, string_bytes};
+ghost use Rattle.meta_operands.specs.declared.operand.Operand.{Operand};
+ghost use Rattle.meta_rust_text.specs.MethodArguments.{each_with_before, parameter_count, operand_arguments, control_argument};
+ghost use Rattle.meta_rust_text.specs.MethodArguments.{self_argument, arguments_text};
 
 use super::arguments::push_argument;
+use super::numbering::Numbering;
 use super::operands::{asked_control, has_block, has_mem_flags, is_converted, variable_name};
 use super::type_parameters::parameter_name;
 use meta_inst::InstructionContent;
@@ -17,15 +19,16 @@ const BLOCK: &str =
 
 const BLOCK_HOLES: [&str; 1] = ["name"];
 
-/// Adds the arguments for an operand that has these before it.
+/// Adds the arguments for an operand. If it is converted, this is the number of its type parameter.
 #[tactic(auto, using(crate::proofs::Templates::block_arguments_same), unfolding(crate::specs::MethodArguments::operand_arguments))]
 fn push_operand(
     alloc: Global,
     out: &mut String,
-    before: &[Operand],
+    number: usize,
     operand: &Operand,
 ) -> Result<(), AllocError>
-    ensures { OnOk result (string_bytes out.new ≡ string_bytes out.old ++ operand_arguments before.now operand.now) }
+    ensures { (before : List Operand) → number ≡ parameter_count before + 1
+        → OnOk result (string_bytes out.new ≡ string_bytes out.old ++ operand_arguments before operand.now) }
 {
     if operand.kind.is_block() {
         return fill(out, BLOCK, &BLOCK_HOLES, &[operand.name.as_str()]);
@@ -34,7 +37,7 @@ fn push_operand(
         return push_text(out, ", block: ir::Block");
     }
     if is_converted(operand) {
-        let parameter = parameter_name(alloc, before)?;
+        let parameter = parameter_name(alloc, number)?;
         return push_argument(out, operand.name.as_str(), parameter.as_str());
     }
     push_argument(out, operand.name.as_str(), operand.kind.rust_type.as_str())
@@ -43,9 +46,11 @@ fn push_operand(
 fn push_operands(alloc: Global, out: &mut String, operands: &[Operand]) -> Result<(), AllocError>
     ensures { OnOk result (string_bytes out.new ≡ string_bytes out.old ++ each_with_before operand_arguments [] operands.now) }
 {
+    let mut numbering = Numbering::new();
     for place in 0..operands.len() {
-        let (before, _) = operands.split_at(place);
-        push_operand(alloc, out, before, &operands[place])?;
+        let operand = &operands[place];
+        push_operand(alloc, out, numbering.next_number(), operand)?;
+        numbering = numbering.past(operand);
     }
     Ok(())
 }

@@ -1,26 +1,19 @@
-ghost use Rattle.std.specs.Prelude.{◌≡◌, ◌+◌, ◌++◌, [], IfOk, OnOk, map, string_bytes};
+ghost use Rattle.std.specs.Prelude.{◌≡◌, ◌+◌, ◌++◌, List, [], IfOk, OnOk, map, string_bytes};
+ghost use Rattle.meta_operands.specs.declared.operand.Operand.{Operand};
 ghost use Rattle.meta_rust_text.specs.MethodArguments.{each_with_before, parameter_count, parameter_name, taken_type, bound_text, bound_of};
 ghost use Rattle.meta_rust_text.specs.MethodArguments.{lifetime_of, in_angles, type_parameters};
 
+use super::numbering::Numbering;
 use super::operands::{has_block, is_converted, is_mem_flags};
 use meta_operands::Operand;
 use std::alloc::{AllocError, Global};
 
-fn parameter_number(before: &[Operand]) -> usize
-    ensures { result ≡ parameter_count before.now + 1 }
-{
-    let converted = before.iter().filter(|o| is_converted(o)).count();
-    if has_block(before) {
-        return converted + 2;
-    }
-    converted + 1
-}
-
+/// The name of the type parameter with this number.
 #[tactic(auto, unfolding(crate::specs::MethodArguments::parameter_name))]
-pub(crate) fn parameter_name(alloc: Global, before: &[Operand]) -> Result<String, AllocError>
-    ensures { IfOk result (λ name. string_bytes name ≡ parameter_name before.now) }
+pub(crate) fn parameter_name(alloc: Global, number: usize) -> Result<String, AllocError>
+    ensures { (before : List Operand) → number ≡ parameter_count before + 1
+        → IfOk result (λ name. string_bytes name ≡ parameter_name before) }
 {
-    let number = parameter_number(before);
     format!(in alloc; "T{number}")
 }
 
@@ -40,18 +33,20 @@ fn bound(alloc: Global, name: &str, converted: &str) -> Result<String, AllocErro
     format!(in alloc; "{name}: Into<{converted}>")
 }
 
+/// Adds the bound of the operand's type parameter, if it has one. This is then its number.
 fn push_bound(
     alloc: Global,
     bounds: &mut Vec<String>,
-    before: &[Operand],
+    number: usize,
     operand: &Operand,
 ) -> Result<(), AllocError>
-    ensures { OnOk result (map string_bytes bounds.new.items ≡ map string_bytes bounds.old.items ++ bound_of before.now operand.now) }
+    ensures { (before : List Operand) → number ≡ parameter_count before + 1
+        → OnOk result (map string_bytes bounds.new.items ≡ map string_bytes bounds.old.items ++ bound_of before operand.now) }
 {
     if !is_converted(operand) {
         return Ok(());
     }
-    let name = parameter_name(alloc, before)?;
+    let name = parameter_name(alloc, number)?;
     bounds.push(bound(alloc, name.as_str(), taken_type(operand))?)?;
     Ok(())
 }
@@ -64,9 +59,11 @@ fn push_bounds(
     ensures { OnOk result (map string_bytes bounds.new.items ≡ map string_bytes bounds.old.items
         ++ each_with_before bound_of [] operands.now) }
 {
+    let mut numbering = Numbering::new();
     for place in 0..operands.len() {
-        let (before, _) = operands.split_at(place);
-        push_bound(alloc, bounds, before, &operands[place])?;
+        let operand = &operands[place];
+        push_bound(alloc, bounds, numbering.next_number(), operand)?;
+        numbering = numbering.past(operand);
     }
     Ok(())
 }
