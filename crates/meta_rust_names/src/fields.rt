@@ -134,43 +134,33 @@ fn is_raw_block_member(format: &InstructionFormat, name: &[u8]) -> bool
 
 /// Whether the name is that of a parameter of the constructor, for a value or a block.
 #[tactic(auto, unfolding(crate::specs::Fields::is_parameter_of))]
-fn is_parameter_of(
-    alloc: Global,
-    format: &InstructionFormat,
-    name: &str,
-) -> Result<bool, AllocError>
-    ensures { IfOk result (λ is. is ≡ is_parameter_of format.now name.now) }
+fn is_parameter_of(format: &InstructionFormat, name: &[u8]) -> bool
+    ensures { result ≡ is_parameter_of format.now name.now }
 {
-    if !format.has_value_list && is_numbered(alloc, "arg", format.num_value_operands, name)? {
-        return Ok(true);
+    if !format.has_value_list && is_numbered(b"arg", format.num_value_operands, name) {
+        return true;
     }
-    if is_numbered(alloc, "block", format.num_block_operands, name)? {
-        return Ok(true);
+    if is_numbered(b"block", format.num_block_operands, name) {
+        return true;
     }
-    is_numbered(alloc, "block", format.num_raw_block_operands, name)
+    is_numbered(b"block", format.num_raw_block_operands, name)
 }
 
 #[tactic(auto, unfolding(crate::specs::Fields::is_of_format))]
-fn is_of_format(
-    alloc: Global,
-    format: &InstructionFormat,
-    uses_mapper: bool,
-    name: &str,
-) -> Result<bool, AllocError>
+fn is_of_format(format: &InstructionFormat, uses_mapper: bool, name: &[u8]) -> bool
     requires { uses_mapper ≡ asks_mapper format.now }
-    ensures { IfOk result (λ is. is ≡ is_of_format format.now name.now) }
+    ensures { result ≡ is_of_format format.now name.now }
 {
-    let bytes = name.as_bytes();
-    if is_always_taken(bytes) {
-        return Ok(true);
+    if is_always_taken(name) {
+        return true;
     }
-    if is_method_variable(format, uses_mapper, bytes) {
-        return Ok(true);
+    if is_method_variable(format, uses_mapper, name) {
+        return true;
     }
-    if is_member_of(format, bytes) {
-        return Ok(true);
+    if is_member_of(format, name) {
+        return true;
     }
-    is_parameter_of(alloc, format, name)
+    is_parameter_of(format, name)
 }
 
 /// Whether something beside a field has the name, and what, where these are the names of earlier fields.
@@ -188,7 +178,7 @@ fn taken_why(
     if is_table_constant(name.as_bytes()) {
         return Ok(Some(Why::InScope));
     }
-    if is_of_format(alloc, format, uses_mapper, name)? {
+    if is_of_format(format, uses_mapper, name.as_bytes()) {
         return Ok(Some(Why::OfFormat));
     }
     if names.meets(alloc, name)? {
