@@ -1,4 +1,5 @@
-mod Found
+-- a stem and a number below a count
+mod Numbers
 pub mod Truths
 mod Breaks
 mod Keywords

@@ -71,19 +71,20 @@ fn holds_operands(format: &InstructionFormat) -> bool
         || format.num_raw_block_operands != 0
 }
 
-/// Whether the method that maps asks the mapper.
+/// Whether the method that maps asks the mapper. It looks at each field, so it is asked once a format.
 fn asks_mapper(format: &InstructionFormat) -> bool
     ensures { result ≡ asks_mapper format.now }
 {
     holds_operands(format) || has_mapped_field(format.imm_fields.as_slice())
 }
 
+/// Whether a method of the format has a variable of the name, where this says whether it asks the mapper.
 #[tactic(auto, unfolding(crate::specs::Fields::is_method_variable))]
-fn is_method_variable(format: &InstructionFormat, name: &[u8]) -> bool
+fn is_method_variable(format: &InstructionFormat, uses_mapper: bool, name: &[u8]) -> bool
+    requires { uses_mapper ≡ asks_mapper format.now }
     ensures { result ≡ is_method_variable format.now name.now }
 {
-    (asks_pool(format) && is_named(b"pool", name))
-        || (asks_mapper(format) && is_named(b"mapper", name))
+    (asks_pool(format) && is_named(b"pool", name)) || (uses_mapper && is_named(b"mapper", name))
 }
 
 #[tactic(auto, unfolding(crate::specs::Fields::is_member_of))]
@@ -133,37 +134,33 @@ fn is_raw_block_member(format: &InstructionFormat, name: &[u8]) -> bool
 
 /// Whether the name is that of a parameter of the constructor, for a value or a block.
 #[tactic(auto, unfolding(crate::specs::Fields::is_parameter_of))]
-fn is_parameter_of(
-    alloc: Global,
-    format: &InstructionFormat,
-    name: &str,
-) -> Result<bool, AllocError>
-    ensures { IfOk result (λ is. is ≡ is_parameter_of format.now name.now) }
+fn is_parameter_of(format: &InstructionFormat, name: &[u8]) -> bool
+    ensures { result ≡ is_parameter_of format.now name.now }
 {
-    if !format.has_value_list && is_numbered(alloc, "arg", format.num_value_operands, name)? {
-        return Ok(true);
+    if !format.has_value_list && is_numbered(b"arg", format.num_value_operands, name) {
+        return true;
     }
-    if is_numbered(alloc, "block", format.num_block_operands, name)? {
-        return Ok(true);
+    if is_numbered(b"block", format.num_block_operands, name) {
+        return true;
     }
-    is_numbered(alloc, "block", format.num_raw_block_operands, name)
+    is_numbered(b"block", format.num_raw_block_operands, name)
 }
 
 #[tactic(auto, unfolding(crate::specs::Fields::is_of_format))]
-fn is_of_format(alloc: Global, format: &InstructionFormat, name: &str) -> Result<bool, AllocError>
-    ensures { IfOk result (λ is. is ≡ is_of_format format.now name.now) }
+fn is_of_format(format: &InstructionFormat, uses_mapper: bool, name: &[u8]) -> bool
+    requires { uses_mapper ≡ asks_mapper format.now }
+    ensures { result ≡ is_of_format format.now name.now }
 {
-    let bytes = name.as_bytes();
-    if is_always_taken(bytes) {
-        return Ok(true);
+    if is_always_taken(name) {
+        return true;
     }
-    if is_method_variable(format, bytes) {
-        return Ok(true);
+    if is_method_variable(format, uses_mapper, name) {
+        return true;
     }
-    if is_member_of(format, bytes) {
-        return Ok(true);
+    if is_member_of(format, name) {
+        return true;
     }
-    is_parameter_of(alloc, format, name)
+    is_parameter_of(format, name)
 }
 
 /// Whether something beside a field has the name, and what, where these are the names of earlier fields.
@@ -171,15 +168,17 @@ fn is_of_format(alloc: Global, format: &InstructionFormat, name: &str) -> Result
 fn taken_why(
     alloc: Global,
     format: &InstructionFormat,
+    uses_mapper: bool,
     names: &Names,
     name: &str,
 ) -> Result<Option<Why>, AllocError>
+    requires { uses_mapper ≡ asks_mapper format.now }
     ensures { IfOk result (λ why. why ≡ taken_why format.now (known names.now) name.now) }
 {
     if is_table_constant(name.as_bytes()) {
         return Ok(Some(Why::InScope));
     }
-    if is_of_format(alloc, format, name)? {
+    if is_of_format(format, uses_mapper, name.as_bytes()) {
         return Ok(Some(Why::OfFormat));
     }
     if names.meets(alloc, name)? {
@@ -193,13 +192,15 @@ fn taken_why(
 fn field_name_why(
     alloc: Global,
     format: &InstructionFormat,
+    uses_mapper: bool,
     names: &Names,
     field: &FormatField,
 ) -> Result<Option<Why>, AllocError>
+    requires { uses_mapper ≡ asks_mapper format.now }
     ensures { IfOk result (λ why. why ≡ field_name_why format.now (known names.now) field.now) }
 {
     let name = field.member.as_str();
-    let taken = taken_why(alloc, format, names, name)?;
+    let taken = taken_why(alloc, format, uses_mapper, names, name)?;
     let variant = or_why(variant_why(&field.kind, name.as_bytes()), taken);
     Ok(or_why(word_why(name.as_bytes()), variant))
 }
@@ -216,15 +217,17 @@ fn push_field(
     alloc: Global,
     out: &mut Vec<RefusedName>,
     format: &InstructionFormat,
+    uses_mapper: bool,
     place: Place,
     names: &Names,
     number: usize,
     field: &FormatField,
 ) -> Result<(), AllocError>
+    requires { uses_mapper ≡ asks_mapper format.now }
     ensures { OnOk result (out.new.items ≡ out.old.items ++ field_refused format.now place (known names.now) (number, field.now)) }
 {
     let number = number as u64;
-    let why = field_name_why(alloc, format, names, field)?;
+    let why = field_name_why(alloc, format, uses_mapper, names, field)?;
     push_refused(out, place, Part::Field(number), why)?;
     push_refused(
         out,
@@ -243,10 +246,20 @@ pub(crate) fn push_fields(
 ) -> Result<(), AllocError>
     ensures { OnOk result (out.new.items ≡ out.old.items ++ fields_refused format.now place fields.now) }
 {
+    let uses_mapper = asks_mapper(format);
     let mut names = Names::new(alloc);
     for number in 0..fields.len() {
         let field = &fields[number];
-        push_field(alloc, out, format, place, &names, number, field)?;
+        push_field(
+            alloc,
+            out,
+            format,
+            uses_mapper,
+            place,
+            &names,
+            number,
+            field,
+        )?;
         names.add_forms(alloc, field.member.as_str())?;
     }
     Ok(())

@@ -1,5 +1,6 @@
 ghost use Rattle.std.specs.Prelude.{◌≡◌, ◌||◌, ◌++◌, ℕ, List, false, OnOk, IfOk, string_bytes};
 ghost use Rattle.std.specs.Fmt.{decimal};
+ghost use Rattle.std.specs.List.{list_any, range_with_len};
 ghost use Rattle.std.specs.declared.alloc.Global.{Global};
 ghost use Rattle.std.specs.declared.collections.BTreeSet.{BTreeSet};
 ghost use Rattle.std.specs.declared.string.String.{String};
@@ -7,6 +8,7 @@ ghost use Rattle.meta_operands.specs.Texts.{same_text};
 ghost use Rattle.meta_rust_names.specs.Forms.{has_form, is_named, is_numbered, meets, raw_form};
 ghost use Rattle.meta_rust_names.specs.Known.{known};
 
+use meta_lines::number_u32;
 use std::alloc::{AllocError, Global};
 use std::collections::BTreeSet;
 use std::marker::Model;
@@ -88,26 +90,35 @@ pub(crate) fn is_named(word: &[u8], name: &[u8]) -> bool
     }
 }
 
-fn is_stem_with(alloc: Global, stem: &str, number: u32, name: &str) -> Result<bool, AllocError>
-    ensures { IfOk result (λ is. is ≡ is_named (stem.now ++ decimal number) name.now) }
+/// Whether the digits are a number below the count.
+fn is_number_below(count: u32, digits: &[u8]) -> bool
+    ensures { result ≡ list_any (λ number. same_text (decimal number) digits.now) (range_with_len 0 count) }
 {
-    let numbered = format!(in alloc; "{stem}{number}")?;
-    Ok(is_named(numbered.as_bytes(), name.as_bytes()))
+    match number_u32(digits) {
+        Some(number) => number < count,
+        None => false,
+    }
 }
 
-/// Whether the name is the stem and then a number below the count.
-pub(crate) fn is_numbered(
-    alloc: Global,
-    stem: &str,
-    count: u32,
-    name: &str,
-) -> Result<bool, AllocError>
-    ensures { IfOk result (λ is. is ≡ is_numbered stem.now count name.now) }
+/// Whether the word is the stem and then a number below the count.
+fn is_stem_numbered(stem: &[u8], count: u32, word: &[u8]) -> bool
+    ensures { result ≡ list_any (λ number. same_text (stem.now ++ decimal number) word.now) (range_with_len 0 count) }
 {
-    for number in 0..count {
-        if is_stem_with(alloc, stem, number, name)? {
-            return Ok(true);
-        }
+    match word.strip_prefix(stem) {
+        Some(digits) => is_number_below(count, digits),
+        None => false,
     }
-    Ok(false)
+}
+
+/// Whether the name is the stem and then a number below the count, with or without `r#`.
+pub(crate) fn is_numbered(stem: &[u8], count: u32, name: &[u8]) -> bool
+    ensures { result ≡ is_numbered stem.now count name.now }
+{
+    if is_stem_numbered(stem, count, name) {
+        return true;
+    }
+    match name.strip_prefix(b"r#".as_slice()) {
+        Some(word) => is_stem_numbered(stem, count, word),
+        None => false,
+    }
 }
