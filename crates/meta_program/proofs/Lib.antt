@@ -16,6 +16,7 @@ mod LaidItems
 mod LaidDeclared
 mod NameItems
 mod NameLines
+mod ItemLines
 mod Asked
 mod Entries
 mod NotWrong

@@ -1,5 +1,5 @@
 -- Words have at most one case of `Wrong`.
-use Rattle.std.proofs.Common.{◌≡◌, ◌∙◌, ◌≤◌, ◌⊎◌, ℕ, inl, inr, ⊎_elim, List, [], ◌∷◌, length, refl, sym, ap, arith}
+use Rattle.std.proofs.Common.{◌≡◌, ◌∙◌, ◌≤◌, ◌<◌, ◌⊎◌, ℕ, inl, inr, ⊎_elim, List, [], ◌∷◌, length, refl, sym, ap, arith}
 use Rattle.std.specs.Prelude.{Option, Some, None}
 use Rattle.meta_program.specs.declared.over.Over.{Over}
 use Rattle.meta_program.specs.declared.over.Over.TheVariants.{Shared, File}
@@ -21,6 +21,14 @@ many (Shared words) place (inr (is, inl h)) = omega (arith, ap length h.are)
 many (Shared words) place (inr (is, inr h)) = omega (arith, ap length h.are)
 many (File path words) place (inl h) = omega (arith, ap length h.1.are)
 many (File path words) place (inr h) = omega (arith, ap length h.1.are)
+
+-- the word that is too many is one of them
+pub too_many_within : (over : Over) (place : ℕ) → IsTooMany over place → place < length (words_over over)
+too_many_within (Shared words) place (inl h) = omega (arith, h.0, ap length h.1.are)
+too_many_within (Shared words) place (inr (is, inl h)) = omega (arith, is, ap length h.are)
+too_many_within (Shared words) place (inr (is, inr h)) = omega (arith, is, ap length h.are)
+too_many_within (File path words) place (inl h) = omega (arith, h.0, ap length h.1.are)
+too_many_within (File path words) place (inr h) = omega (arith, h.0, ap length h.1.are)
 
 -- if a word is no version, there are at least three
 three : (words : List (List ℕ)) → NameNoVersion words → 3 ≤ length words

@@ -1,6 +1,6 @@
 -- The line that a file is missing is plain, since the first word is one of three.
-use Rattle.std.proofs.Common.{◌≡◌, ◌∙◌, ℕ, true, inl, inr, List, [], ◌∷◌, ◌++◌, slice_get, Some}
-use Rattle.std.proofs.Common.{refl, sym, ap, subst}
+use Rattle.std.proofs.Common.{◌≡◌, ◌∙◌, ◌<◌, ℕ, true, inl, inr, List, [], ◌∷◌, ◌++◌, length, slice_get, Some}
+use Rattle.std.proofs.Common.{refl, sym, ap, subst, arith}
 use Rattle.std.proofs.lemmas.Option.{same_Some}
 use Rattle.std.specs.Prelude.{codes}
 use Rattle.std.specs.List.{list_all}
@@ -34,6 +34,11 @@ missing_plain words line (inl (option, inr is, e)) h =
     plain_line (missing_text (codes "--declarations")) line refl (missing_is words line (codes "--declarations") h (ap first e ∙ is))
 missing_plain words line (inr e) h =
     plain_line (missing_text (codes "check")) line refl (missing_is words line (codes "check") h (ap first e))
+
+-- there is a first word
+pub missing_within : (words : List (List ℕ)) → MissFile words → 0 < length words
+missing_within words (inl (option, is, e)) = omega (arith, ap length e)
+missing_within words (inr e) = omega (arith, ap length e)
 
 pub missed : (over : Over) → IsFileMissing over → MissFile (words_over over)
 missed (Shared words) h = h

@@ -1,7 +1,8 @@
-ghost use Rattle.std.specs.Prelude.{◌≡◌, ◌↔◌, ℕ, List, Err, IfOk, IfSome, IfNone, IsTrue};
+ghost use Rattle.std.specs.Prelude.{◌≡◌, ◌↔◌, ◌<◌, ℕ, List, Err, IfOk, IfSome, IfNone, IsTrue, Some, length, slice_get};
 ghost use Rattle.meta_types.specs.declared.fault.DefinitionError.{DefinitionError};
 ghost use Rattle.meta_build.specs.AllDeclared.{Declared, HasFirstFault, AreValid};
 ghost use Rattle.meta_file_declare.specs.AllItems.{Declares as DeclaresItems};
+ghost use Rattle.meta_file_declare.specs.Faults.{HasItsItem};
 ghost use Rattle.meta_file_reader.specs.Reason.{reason_of};
 ghost use Rattle.meta_file_load.specs.Why.{located};
 ghost use Rattle.meta_program.specs.File.{AreReadOf, IsMessageOf, IsWrongMessage, IsFaultMessageOf, Declares, IsUnread, IsRefusal};
@@ -9,7 +10,7 @@ ghost use Rattle.meta_program.specs.declared.loading.LoadError.TheVariants as er
 
 use super::laws::a_text_declares_one_thing;
 use meta_build::{Declarations, build_all};
-use meta_file_declare::{DeclareError, declare, place_of_fault};
+use meta_file_declare::{DeclareError, declare, faults_have_their_items, place_of_fault};
 use meta_file_load::{declare_why, fault_why, located};
 use meta_file_reader::{ReadError, ReadItems, Refusal, read_items};
 use meta_file_syntax::Bytes;
@@ -42,7 +43,15 @@ fn unread(alloc: Global, path: &[u8], refusal: &Refusal) -> Result<Bytes, AllocE
     located(alloc, path, refusal.line, &why)
 }
 
-/// The message if the item at a place declares nothing. Each item has a line; if it were missing, the error would be `AllocError`.
+/// The line of the item at a place.
+pub(crate) fn line_of(lines: &[usize], place: usize) -> usize
+    requires { place < length lines.now }
+    ensures { slice_get lines.now place ≡ Some result }
+{
+    lines[place]
+}
+
+/// The message if the item at a place declares nothing.
 fn undeclared(
     alloc: Global,
     path: &[u8],
@@ -50,37 +59,36 @@ fn undeclared(
     place: usize,
     reason: Reason<'_>,
 ) -> Result<Bytes, AllocError>
+    requires { place < length lines.now }
     ensures { IfOk result (IsMessageOf path.now lines.now place reason.entry) }
 {
-    let Some(line) = lines.get(place) else {
-        return Err(AllocError);
-    };
+    let line = line_of(lines, place);
     let why = declare_why(alloc, lines, reason)?;
-    located(alloc, path, *line, &why)
+    located(alloc, path, line, &why)
 }
 
-/// The message if the declarations have a fault. An item declares what the fault names; if it were missing, the error would be
-/// `AllocError`.
+/// The message if the declarations of the items have a fault. An item declares what the fault names.
 fn faulty(
     alloc: Global,
     path: &[u8],
     items: &ReadItems,
     fault: &DefinitionError,
 ) -> Result<Bytes, AllocError>
+    requires item { (d : Declared) × HasItsItem items.now.items.items d fault.now }
+    requires lines { length items.now.lines.items ≡ length items.now.items.items }
     ensures { IfOk result (IsFaultMessageOf path.now items.now.items.items items.now.lines.items fault.now) }
 {
     let Some(place) = place_of_fault(&items.items, fault) else {
-        return Err(AllocError);
+        unreachable!()
     };
-    let Some(line) = items.lines.get(place) else {
-        return Err(AllocError);
-    };
+    let line = line_of(&items.lines, place);
     let why = fault_why(alloc, fault)?;
-    located(alloc, path, *line, &why)
+    located(alloc, path, line, &why)
 }
 
 fn items_in(alloc: Global, path: &[u8], text: &[u8]) -> Result<ReadItems, LoadError>
     ensures read { IfOk result (λ r. AreReadOf text.now r.items.items r.lines.items) }
+    ensures lines { IfOk result (λ r. length r.lines.items ≡ length r.items.items) }
     ensures refused { (message : List ℕ) → result ≡ Err (errors.Refused message) → IsUnread path.now text.now message }
 {
     match read_items(alloc, text) {
@@ -94,6 +102,7 @@ fn items_in(alloc: Global, path: &[u8], text: &[u8]) -> Result<ReadItems, LoadEr
 }
 
 fn declared_by(alloc: Global, path: &[u8], items: &ReadItems) -> Result<Declarations, LoadError>
+    requires { length items.now.lines.items ≡ length items.now.items.items }
     ensures said { IfOk result (DeclaresItems items.now.items.items) }
     ensures refused { (message : List ℕ) → result ≡ Err (errors.Refused message)
         → IsWrongMessage path.now items.now.items.items items.now.lines.items message }
@@ -143,6 +152,7 @@ fn loaded(alloc: Global, path: &[u8], text: &[u8]) -> Result<Declarations, LoadE
     match fault_in(alloc, &declarations)? {
         None => Ok(declarations),
         Some(fault) => {
+            faults_have_their_items();
             let message = faulty(alloc, path, &items, &fault)?;
             Err(LoadError::Refused(message))
         }

@@ -1,4 +1,4 @@
-ghost use Rattle.std.specs.Prelude.{◌≡◌, ◌∷◌, [], IfOk, string_bytes};
+ghost use Rattle.std.specs.Prelude.{◌≡◌, ◌<◌, ◌∷◌, [], IfOk, Some, length, slice_get, string_bytes};
 ghost use Rattle.meta_command_line.specs.Misuse.{AreTaken};
 ghost use Rattle.meta_command_line.specs.Usage.{ArePlainlyNamed, IsPlain, IsUsageLine};
 ghost use Rattle.meta_program.specs.Tool.{AskSomething};
@@ -11,15 +11,20 @@ use meta_command_line::{CommandForm, usage_line};
 use meta_types::Text;
 use std::alloc::{AllocError, Global};
 
-/// The line that a file is missing for the first word. If there were no first word, the error would be `AllocError`.
+fn word_at(words: &[Text], place: usize) -> &Text
+    requires { place < length words.now }
+    ensures { slice_get words.now place ≡ Some result.now }
+{
+    &words[place]
+}
+
+/// The line that a file is missing for the first word.
 fn file_missing(alloc: Global, words: &[Text]) -> Result<String, AllocError>
     requires { MissFile words.now }
     ensures plain { IfOk result (λ line. IsPlain (string_bytes line)) }
     ensures line { IfOk result (λ line. SaysFileMissing words.now (string_bytes line)) }
 {
-    let Some(name) = words.get(0) else {
-        return Err(AllocError);
-    };
+    let name = word_at(words, 0);
     let name = name.as_str();
     format!(in alloc; "a file is missing for '{name}'")
 }
@@ -47,7 +52,7 @@ fn usage_of_both(
     usage_line(alloc, commands, &words)
 }
 
-/// The line that the word at this place is too many. If there were no such word, the error would be `AllocError`.
+/// The line that the word at this place is too many.
 fn word_too_many(
     alloc: Global,
     commands: &'static [CommandForm],
@@ -61,12 +66,8 @@ fn word_too_many(
     ensures plain { ArePlainlyNamed commands.now → IfOk result (λ line. IsPlain (string_bytes line)) }
     ensures line { IfOk result (λ line. SaysTooMany commands.now words.now place (string_bytes line)) }
 {
-    let Some(name) = words.get(0) else {
-        return Err(AllocError);
-    };
-    let Some(word) = words.get(place) else {
-        return Err(AllocError);
-    };
+    let name = word_at(words, 0);
+    let word = word_at(words, place);
     usage_of_both(alloc, commands, name, word)
 }
 

@@ -1,17 +1,19 @@
-ghost use Rattle.std.specs.Prelude.{◌≡◌, IfOk, Some, map, string_bytes};
-ghost use Rattle.meta_build.specs.AllDeclared.{AreValid};
+ghost use Rattle.std.specs.Prelude.{◌≡◌, All, IfOk, Some, length, map, string_bytes};
+ghost use Rattle.meta_build.specs.AllDeclared.{Declared, AreValid};
 ghost use Rattle.meta_rust_names.specs.AllRefused.{refused_names};
 ghost use Rattle.meta_program.specs.File.{Declares, AreReadOf};
 ghost use Rattle.meta_program.specs.Places.{ArePlaces};
-ghost use Rattle.meta_program.specs.Told.{why_said, told, AreTold};
+ghost use Rattle.meta_program.specs.Told.{why_said, told, HasLine, AreTold};
 
+use super::loading::line_of;
 use super::names::Names;
 use super::places::ItemPlaces;
-use meta_build::{Built, Declarations, build_all};
+use meta_build::{Built, Declarations, build_all, one_first_fault};
 use meta_file_load::located;
-use meta_file_reader::{ReadItems, read_items};
+use meta_file_reader::{ReadError, ReadItems, read_items, what_is_read};
 use meta_file_syntax::Bytes;
 use meta_rust_names::{RefusedName, refused_names};
+use meta_types::DefinitionError;
 use std::alloc::{AllocError, Global};
 
 /// Which part of an item has the name, and why Rust refuses it, as a warning or a refusal.
@@ -24,7 +26,7 @@ fn why_said(alloc: Global, names: Names, name: &RefusedName) -> Result<String, A
     }
 }
 
-/// The message of a name, which an item declares. If there were no item, the error would be `AllocError`.
+/// The message of a name, which an item declares.
 fn told(
     alloc: Global,
     path: &[u8],
@@ -33,17 +35,16 @@ fn told(
     places: &ItemPlaces,
     name: &RefusedName,
 ) -> Result<Bytes, AllocError>
-    requires { ArePlaces places.now items.now.items.items }
+    requires places { ArePlaces places.now items.now.items.items }
+    requires line { HasLine items.now.items.items items.now.lines.items name.now }
     ensures { IfOk result (λ message. Some message ≡ told path.now names items.now.items.items items.now.lines.items name.now) }
 {
     let Some(place) = places.of_name(&items.items, name) else {
-        return Err(AllocError);
+        unreachable!()
     };
-    let Some(line) = items.lines.get(place) else {
-        return Err(AllocError);
-    };
+    let line = line_of(&items.lines, place);
     let why = why_said(alloc, names, name)?;
-    located(alloc, path, *line, why.as_bytes())
+    located(alloc, path, line, why.as_bytes())
 }
 
 fn all_told(
@@ -53,6 +54,7 @@ fn all_told(
     items: &ReadItems,
     refused: &[RefusedName],
 ) -> Result<Vec<Bytes>, AllocError>
+    requires { All (HasLine items.now.items.items items.now.lines.items) refused.now }
     ensures { IfOk result (λ messages. map Some messages.items
         ≡ map (told path.now names items.now.items.items items.now.lines.items) refused.now) }
 {
@@ -64,13 +66,16 @@ fn all_told(
     Ok(messages)
 }
 
-/// The items of a text that reads as items. If it didn't, the error would be `AllocError`.
+/// The items of a text that makes declarations.
 fn items_of(alloc: Global, text: &[u8]) -> Result<ReadItems, AllocError>
-    ensures { IfOk result (λ r. AreReadOf text.now r.items.items r.lines.items) }
+    requires { (d : Declared) × Declares text.now d }
+    ensures read { IfOk result (λ r. AreReadOf text.now r.items.items r.lines.items) }
+    ensures lines { IfOk result (λ r. length r.lines.items ≡ length r.items.items) }
 {
     match read_items(alloc, text) {
         Ok(items) => Ok(items),
-        Err(_) => Err(AllocError),
+        Err(ReadError::Memory) => Err(AllocError),
+        Err(ReadError::Refused(_)) => unreachable!(),
     }
 }
 
@@ -91,6 +96,7 @@ fn told_of(
     if refused.is_empty() {
         return Ok(Vec::new(alloc));
     }
+    what_is_read();
     let items = items_of(alloc, text)?;
     all_told(alloc, path, names, &items, &refused)
 }
@@ -109,8 +115,10 @@ pub fn names_told(
     requires valid { AreValid declarations.now }
     ensures { IfOk result (λ messages. AreTold path.now names text.now declarations.now messages.items) }
 {
+    one_first_fault();
     match build_all(alloc, declarations) {
         Ok(built) => told_of(alloc, path, names, text, &built),
-        Err(_) => Err(AllocError),
+        Err(DefinitionError::OutOfMemory) => Err(AllocError),
+        Err(_) => unreachable!(),
     }
 }
