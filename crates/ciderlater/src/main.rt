@@ -6,8 +6,8 @@ mod manual;
 use manual::MANUAL;
 use meta_command_line::{print_help, print_version, tell, tell_line, words};
 use meta_program::{
-    Checked, FileEnding, FileTrouble, Names, Over, Plan, Tool, about, check_file, listed_tools,
-    run_tool, wrong_line,
+    Checked, FileEnding, FileTrouble, Names, Plan, Tool, about, check_file, listed_tools, run_tool,
+    wrong_line,
 };
 use meta_run::{Ending, run_answerer};
 use meta_shared_ops::define;
@@ -35,12 +35,8 @@ fn tell_message(rt: &HostRuntime, message: &[u8]) {
 }
 
 /// Says what is wrong with words that ask nothing. The status is that of a usage error.
-fn tell_wrong(rt: &HostRuntime, over: &Over<'_>) -> u8 {
-    tell_made(
-        rt,
-        wrong_line(rt.alloc(), listed_tools(), over),
-        Ending::Usage,
-    );
+fn tell_wrong(rt: &HostRuntime, line: Result<String, AllocError>) -> u8 {
+    tell_made(rt, line, Ending::Usage);
     Ending::Usage.code()
 }
 
@@ -170,7 +166,10 @@ fn run(rt: &HostRuntime, words: &[Text]) -> u8 {
         Plan::Shared(tool) => answer_shared(rt, tool),
         Plan::File(path, tool) => answer_over(rt, path, tool),
         Plan::Check(path, names) => answer_check(rt, path, names),
-        Plan::Nothing(over) => tell_wrong(rt, &over),
+        Plan::Nothing(over, wrong) => {
+            let line = wrong_line(rt.alloc(), listed_tools(), &over, wrong);
+            tell_wrong(rt, line)
+        }
     }
 }
 

@@ -7,16 +7,45 @@ use Rattle.meta_lists.proofs.First.{one_first}
 use Rattle.meta_command_line.specs.Asked.{IsHelp, IsVersion, AsksAt, FirstAsks, AsksFor}
 use Rattle.meta_command_line.specs.declared.asked.Asked.{Asked}
 use Rattle.meta_command_line.specs.declared.asked.Asked.TheVariants.{Help, Version, Work}
-use Rattle.meta_program.specs.Over.{AskOverFile}
-use Rattle.meta_program.specs.Plan.{BeginWithVersion, AskForVersion, AskOfItself}
+use Rattle.meta_program.specs.Over.{AskOverFile, IsOver, asked_of}
+use Rattle.meta_program.specs.TablesIn.{BeginWithVersion}
+use Rattle.meta_program.specs.Plan.{AskForVersion, AskOfItself}
+use Rattle.meta_program.specs.declared.plan.Over.{Over}
+use Rattle.meta_program.specs.declared.plan.Over.TheVariants.{Shared, File}
+use Rattle.meta_program.proofs.OneOver.{dash, one_file}
+use Rattle.meta_program.proofs.Words.{letter}
 
 -- if words ask nothing of a file, they ask for a version of tables themselves
-pub version_shared : (words asked : List (List ℕ)) (test : Bool) → asked ≡ words
+version_shared : (words asked : List (List ℕ)) (test : Bool) → asked ≡ words
     → ((path : List ℕ) (others : List (List ℕ)) → AskOverFile words path others → ⊥)
     → (IsTrue test ↔ BeginWithVersion asked) → (IsTrue test ↔ AskForVersion words)
 version_shared words asked test same none h = (
   λ t. inl (subst BeginWithVersion same (h.0 t)),
   λ a. ⊎_elim (λ v. h.1 (subst BeginWithVersion (sym same) v)) (λ o. absurd (none o.0 o.1 o.2)) a,
+)
+
+-- words that ask something of a file don't begin with `tables`
+no_version : (words : List (List ℕ)) (path : List ℕ) (asked : List (List ℕ)) → AskOverFile words path asked → BeginWithVersion words → ⊥
+no_version words path asked (inl (o, is, h)) v =
+    let clash : 116 ≡ 45 = sym (ap letter v.are) ∙ ap letter h ∙ dash o is in absurd (omega (arith, clash))
+no_version words path asked (inr (inl h)) v =
+    let clash : 116 ≡ 99 = sym (ap letter v.are) ∙ ap letter h.0 in absurd (omega (arith, clash))
+no_version words path asked (inr (inr h)) v =
+    let clash : 116 ≡ 99 = sym (ap letter v.are) ∙ ap letter h.0 in absurd (omega (arith, clash))
+
+-- if they ask for a version, that is what they ask of the file
+version_of_file : (words : List (List ℕ)) (path : List ℕ) (asked : List (List ℕ)) → AskOverFile words path asked → AskForVersion words
+    → BeginWithVersion asked
+version_of_file words path asked h (inl v) = absurd (no_version words path asked h v)
+version_of_file words path asked h (inr o) = subst BeginWithVersion (sym (one_file words path o.0 asked o.1 h o.2).1) o.3
+
+-- words ask for a version exactly if what they ask of a file, or of the shared declarations, does
+pub version_over : (words : List (List ℕ)) (over : Over) (asked : List (List ℕ)) (test : Bool) → IsOver words over → asked ≡ asked_of over
+    → (IsTrue test ↔ BeginWithVersion asked) → (IsTrue test ↔ AskForVersion words)
+version_over words (Shared x) asked test h e t = version_shared words asked test (e ∙ h.0) h.1 t
+version_over words (File path x) asked test h e t = (
+  λ yes. inr (path.now, x.now, h, subst BeginWithVersion e (t.0 yes)),
+  λ a. t.1 (subst BeginWithVersion (sym e) (version_of_file words path.now x.now h a)),
 )
 
 abbrev second_letter : List ℕ → ℕ

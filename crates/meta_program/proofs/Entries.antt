@@ -6,11 +6,12 @@ use Rattle.meta_command_line.specs.Misuse.{AreTaken}
 use Rattle.meta_command_line.specs.declared.manual.CommandForm.{CommandForm}
 use Rattle.meta_query.specs.declared.command.Command.TheVariants.{Query, Recheck, Tables, Types, Settings, Instructions, Builder, Synth}
 use Rattle.meta_program.specs.Tool.{AreToolWords, AskSomething}
-use Rattle.meta_program.specs.declared.over.Over.{Over}
-use Rattle.meta_program.specs.declared.over.Over.TheVariants.{Shared, File}
+use Rattle.meta_program.specs.declared.plan.Over.{Over}
+use Rattle.meta_program.specs.declared.plan.Over.TheVariants.{Shared, File}
 use Rattle.meta_program.specs.declared.tool.Tool.{Tool}
 use Rattle.meta_program.specs.declared.tool.Tool.TheVariants.{Run, TablesIn, Verify, Asm, Flags, Audit, Check, Describe}
-use Rattle.meta_program.specs.Wrong.{AskWhatIsListed, BeginWithAsm, IsTooMany, words_over}
+use Rattle.meta_program.specs.Wrong.{AskWhatIsListed, BeginWithAsm, IsTooMany}
+use Rattle.meta_program.specs.Over.{asked_of}
 use Rattle.meta_program.proofs.Words.{first_letter, letter}
 
 -- words that ask nothing and don't begin with `asm` aren't taken
@@ -52,7 +53,7 @@ begins : (words : List (List ℕ)) (first : List ℕ) (after : List (List ℕ)) 
 begins words first after name e at = same_Some name first (sym at ∙ ap (λ (ws : List (List ℕ)). slice_get ws 0) e)
 
 -- the first of words with one word too many
-first_word : (over : Over) (place : ℕ) (name : List ℕ) → IsTooMany over place → slice_get (words_over over) 0 ≡ Some name
+first_word : (over : Over) (place : ℕ) (name : List ℕ) → IsTooMany over place → slice_get (asked_of over) 0 ≡ Some name
     → (name ≡ codes "check") ⊎ (name ≡ codes "tables")
 first_word (Shared words) place name (inl h) at = inl (begins words.now (codes "check") _ name h.1.are at)
 first_word (Shared words) place name (inr (is, inl h)) at = inl (begins words.now (codes "check") _ name h.are at)
@@ -62,7 +63,7 @@ first_word (File path words) place name (inr h) at = inr (begins words.now (code
 
 -- the same with a word after it that is no command
 pub none_after : (commands : List CommandForm) (over : Over) (place : ℕ) (name word : List ℕ) → AskWhatIsListed commands
-    → IsTooMany over place → slice_get (words_over over) 0 ≡ Some name → AreTaken commands (name ∷ (word ∷ [])) → ⊥
+    → IsTooMany over place → slice_get (asked_of over) 0 ≡ Some name → AreTaken commands (name ∷ (word ∷ [])) → ⊥
 none_after commands over place name word listed many at t = ⊎_elim (λ is. by (ap first_letter is)) (λ is. by_tables (ap first_letter is))
     (first_word over place name many at)
   where

@@ -16,10 +16,10 @@ use Rattle.meta_program.specs.Told.{AreTold}
 use Rattle.meta_program.specs.Checked.{IsChecked, DidCheckText, DidCheck}
 use Rattle.meta_program.specs.CheckAnswers.{AreNamesRefused, IsCounted, AnswersCheck, AreNamesRefusedOnly, Completes, WritesNothing}
 use Rattle.meta_program.specs.CheckAnswers.{TellsNames, RunsCheck}
-use Rattle.meta_program.specs.declared.names.Names.{Names}
-use Rattle.meta_program.specs.declared.names.Names.TheVariants.{Warn, Refuse}
-use Rattle.meta_program.specs.declared.file_ending.FileEnding.{FileEnding}
-use Rattle.meta_program.specs.declared.file_ending.FileEnding.TheVariants.{Ran, NamesRefused, Refused, FileFault, FileTooLong}
+use Rattle.meta_program.specs.declared.plan.Names.{Names}
+use Rattle.meta_program.specs.declared.plan.Names.TheVariants.{Warn, Refuse}
+use Rattle.meta_program.specs.declared.file_run.FileEnding.{FileEnding}
+use Rattle.meta_program.specs.declared.file_run.FileEnding.TheVariants.{Ran, NamesRefused, Refused, FileFault, FileTooLong}
 use Rattle.meta_program.proofs.Loaded.{same_text, gave_within, Loaded, is_refused, of_file}
 
 -- if no names are refused, they are warned of, or there are none

@@ -11,8 +11,8 @@ use Rattle.meta_program.specs.Tool.{reads_input, texts_of}
 use Rattle.meta_program.specs.File.{Declares, IsRefusal}
 use Rattle.meta_program.specs.FileRun.{IsAsked, RanText, DidText, DidFile, RanFile, IsRefusedFile, AnswersFile, RunsDeclared, RunsFile}
 use Rattle.meta_program.specs.declared.tool.Tool.{Tool}
-use Rattle.meta_program.specs.declared.file_ending.FileEnding.{FileEnding}
-use Rattle.meta_program.specs.declared.file_ending.FileEnding.TheVariants.{Ran, NamesRefused, Refused, FileFault, FileTooLong}
+use Rattle.meta_program.specs.declared.file_run.FileEnding.{FileEnding}
+use Rattle.meta_program.specs.declared.file_run.FileEnding.TheVariants.{Ran, NamesRefused, Refused, FileFault, FileTooLong}
 use Rattle.meta_program.proofs.Loaded.{same_text, gave_within, Loaded, is_refused, of_file}
 
 module _ {F S K : Type 0} (file_left : F → Option (List ℕ)) (file_reads : F → ℕ) (left : S → Option (List ℕ)) (reads : S → ℕ) (taken : K

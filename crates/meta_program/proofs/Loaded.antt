@@ -8,8 +8,8 @@ use Rattle.meta_run.specs.Run.{IsReadWhole}
 use Rattle.meta_run.specs.declared.ending.Ending.TheVariants as ends
 use Rattle.meta_program.specs.File.{Declares, IsRefusal}
 use Rattle.meta_program.specs.FileRun.{LeavesAll, IsRefusedFile, RefusesFile, LeavesLongFile, OfFile}
-use Rattle.meta_program.specs.declared.file_ending.FileEnding.{FileEnding}
-use Rattle.meta_program.specs.declared.file_ending.FileEnding.TheVariants.{Ran, NamesRefused, Refused, FileFault, FileTooLong}
+use Rattle.meta_program.specs.declared.file_run.FileEnding.{FileEnding}
+use Rattle.meta_program.specs.declared.file_run.FileEnding.TheVariants.{Ran, NamesRefused, Refused, FileFault, FileTooLong}
 
 -- what was read is all that was left, if contracts see the bytes and nothing is left now
 read_all : (input bytes : List ℕ) (left' : Option (List ℕ)) → Some input ≡ with_front bytes left' → NothingLeft left' → bytes ≡ input

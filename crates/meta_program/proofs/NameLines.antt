@@ -14,7 +14,7 @@ use Rattle.meta_program.specs.File.{Declares}
 use Rattle.meta_program.proofs.Texts.{IsReadExactly, one_reading}
 use Rattle.meta_program.specs.Told.{why_said, told, AreTold}
 use Rattle.meta_program.specs.NamedItems.{NameHasItem, HasItsLine}
-use Rattle.meta_program.specs.declared.names.Names.{Names}
+use Rattle.meta_program.specs.declared.plan.Names.{Names}
 use Rattle.meta_program.proofs.NameItems.{names_have_items}
 
 -- what was made of a line that is there

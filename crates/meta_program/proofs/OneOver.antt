@@ -1,12 +1,12 @@
 -- Words are asked over one thing, and ask one thing of it.
 use Rattle.std.proofs.Common.{◌≡◌, inl, inr, ℕ, List, [], ◌∷◌, length, codes, Some, refl, sym, ap, ◌∙◌, arith}
 use Rattle.meta_program.specs.Over.{IsOption, AskOverFile, IsOver, path_of, asked_of, rust_word}
-use Rattle.meta_program.specs.declared.over.Over.{Over}
-use Rattle.meta_program.specs.declared.over.Over.TheVariants.{Shared, File}
+use Rattle.meta_program.specs.declared.plan.Over.{Over}
+use Rattle.meta_program.specs.declared.plan.Over.TheVariants.{Shared, File}
 use Rattle.meta_program.proofs.Words.{first, second, third, after_two, first_letter}
 
 -- an option begins with a dash, so it isn't `check`
-dash : (option : List ℕ) → IsOption option → first_letter option ≡ 45
+pub dash : (option : List ℕ) → IsOption option → first_letter option ≡ 45
 dash option (inl h) = ap first_letter h
 dash option (inr h) = ap first_letter h
 

@@ -5,10 +5,11 @@ use Rattle.std.proofs.lemmas.Option.{same_Some}
 use Rattle.std.specs.Prelude.{codes}
 use Rattle.std.specs.List.{list_all}
 use Rattle.meta_command_line.specs.Usage.{IsPlain}
-use Rattle.meta_program.specs.declared.over.Over.{Over}
-use Rattle.meta_program.specs.declared.over.Over.TheVariants.{Shared, File}
+use Rattle.meta_program.specs.declared.plan.Over.{Over}
+use Rattle.meta_program.specs.declared.plan.Over.TheVariants.{Shared, File}
 use Rattle.meta_program.proofs.ListRows.{is_plain_byte, plain_text}
-use Rattle.meta_program.specs.Wrong.{MissFile, IsFileMissing, SaysFileMissing, words_over}
+use Rattle.meta_program.specs.Wrong.{MissFile, IsFileMissing, SaysFileMissing}
+use Rattle.meta_program.specs.Over.{asked_of}
 use Rattle.meta_program.proofs.Words.{first}
 
 -- a line that is this text
@@ -40,6 +41,6 @@ pub missing_within : (words : List (List ℕ)) → MissFile words → 0 < length
 missing_within words (inl (option, is, e)) = omega (arith, ap length e)
 missing_within words (inr e) = omega (arith, ap length e)
 
-pub missed : (over : Over) → IsFileMissing over → MissFile (words_over over)
+pub missed : (over : Over) → IsFileMissing over → MissFile (asked_of over)
 missed (Shared words) h = h
 missed (File path words) h = absurd h

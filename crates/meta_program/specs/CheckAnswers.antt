@@ -14,10 +14,10 @@ use Rattle.meta_program.specs.File.{Declares}
 use Rattle.meta_program.specs.FileRun.{IsFileGiven, OfFile}
 use Rattle.meta_program.specs.Told.{AreTold}
 use Rattle.meta_program.specs.Checked.{DidCheck}
-use Rattle.meta_program.specs.declared.names.Names.{Names}
-use Rattle.meta_program.specs.declared.names.Names.TheVariants.{Warn, Refuse}
-use Rattle.meta_program.specs.declared.file_ending.FileEnding.{FileEnding}
-use Rattle.meta_program.specs.declared.file_ending.FileEnding.TheVariants.{Ran, NamesRefused, Refused, FileFault, FileTooLong}
+use Rattle.meta_program.specs.declared.plan.Names.{Names}
+use Rattle.meta_program.specs.declared.plan.Names.TheVariants.{Warn, Refuse}
+use Rattle.meta_program.specs.declared.file_run.FileEnding.{FileEnding}
+use Rattle.meta_program.specs.declared.file_run.FileEnding.TheVariants.{Ran, NamesRefused, Refused, FileFault, FileTooLong}
 
 -- the count was written, or the file or its names are refused
 abbrev pub IsAnswer : FileEnding → Type 0

@@ -9,10 +9,10 @@ use Rattle.meta_run.specs.declared.ending.Ending.TheVariants as ends
 use Rattle.meta_program.specs.File.{Declares, IsRefusal}
 use Rattle.meta_program.specs.Tool.{says_counts}
 use Rattle.meta_program.specs.Told.{AreTold}
-use Rattle.meta_program.specs.declared.names.Names.{Names}
-use Rattle.meta_program.specs.declared.names.Names.TheVariants.{Refuse}
-use Rattle.meta_program.specs.declared.file_ending.FileEnding.{FileEnding}
-use Rattle.meta_program.specs.declared.file_ending.FileEnding.TheVariants.{Ran, NamesRefused, Refused, FileFault, FileTooLong}
+use Rattle.meta_program.specs.declared.plan.Names.{Names}
+use Rattle.meta_program.specs.declared.plan.Names.TheVariants.{Refuse}
+use Rattle.meta_program.specs.declared.file_run.FileEnding.{FileEnding}
+use Rattle.meta_program.specs.declared.file_run.FileEnding.TheVariants.{Ran, NamesRefused, Refused, FileFault, FileTooLong}
 
 -- the path, what is asked of names and a text; and a source and a sink, by what contracts see of them, before and after a check of the text
 module _ {S K : Type 0} (left : S → Option (List ℕ)) (reads : S → ℕ) (taken : K → Option (List ℕ)) (writes : K → ℕ)

@@ -13,8 +13,8 @@ use Rattle.meta_run.specs.declared.ending.Ending.TheVariants as ends
 use Rattle.meta_program.specs.Tool.{reads_input, texts_of}
 use Rattle.meta_program.specs.File.{Declares, IsRefusal}
 use Rattle.meta_program.specs.declared.tool.Tool.{Tool}
-use Rattle.meta_program.specs.declared.file_ending.FileEnding.{FileEnding}
-use Rattle.meta_program.specs.declared.file_ending.FileEnding.TheVariants.{Ran, NamesRefused, Refused, FileFault, FileTooLong}
+use Rattle.meta_program.specs.declared.file_run.FileEnding.{FileEnding}
+use Rattle.meta_program.specs.declared.file_run.FileEnding.TheVariants.{Ran, NamesRefused, Refused, FileFault, FileTooLong}
 
 -- the exit status of the process: that of the run; 1 if the file or its names are refused, 6 if it is too long, 8 if it can't be read
 abbrev pub file_code : FileEnding → ℕ

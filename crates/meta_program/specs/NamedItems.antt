@@ -24,7 +24,7 @@ use Rattle.meta_rust_names.specs.AllRefused.{refused_names}
 use Rattle.meta_program.specs.File.{AreReadOf}
 use Rattle.meta_program.specs.Places.{place_of_name}
 use Rattle.meta_program.specs.Told.{why_said}
-use Rattle.meta_program.specs.declared.names.Names.{Names}
+use Rattle.meta_program.specs.declared.plan.Names.{Names}
 
 -- the item at place k stands in the group g, from 0, and declares a setting; that is the one which stands at place n of the group as it is
 -- built, in some byte, and as some boolean if it is one

@@ -1,8 +1,8 @@
 -- What words ask of the names that Rust refuses.
 use Rattle.std.specs.Prelude.{ℕ, List, [], ◌∷◌, codes}
 use Rattle.meta_program.specs.Over.{rust_word}
-use Rattle.meta_program.specs.declared.names.Names.{Names}
-use Rattle.meta_program.specs.declared.names.Names.TheVariants.{Warn, Refuse}
+use Rattle.meta_program.specs.declared.plan.Names.{Names}
+use Rattle.meta_program.specs.declared.plan.Names.TheVariants.{Warn, Refuse}
 
 -- the words of a check that warns of them, and of one that refuses them
 abbrev pub check_words : Names → List (List ℕ)

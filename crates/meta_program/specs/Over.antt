@@ -2,8 +2,8 @@
 --     IsOver words over          the words are asked over this
 --     path_of over, asked_of over    the file that it names, if it names one, and what is asked of its declarations
 use Rattle.std.specs.Prelude.{◌≡◌, ◌≢◌, ◌⊎◌, ℕ, List, [], ◌∷◌, codes, Option, Some, None}
-use Rattle.meta_program.specs.declared.over.Over.{Over}
-use Rattle.meta_program.specs.declared.over.Over.TheVariants.{Shared, File}
+use Rattle.meta_program.specs.declared.plan.Over.{Over}
+use Rattle.meta_program.specs.declared.plan.Over.TheVariants.{Shared, File}
 
 -- the word says that a file follows
 abbrev pub IsOption : List ℕ → Type 0

@@ -10,7 +10,7 @@ use Rattle.meta_file_declare.specs.Places.{place_of_group}
 use Rattle.meta_rust_names.specs.declared.refused.Part.{Part}
 use Rattle.meta_rust_names.specs.declared.refused.Part.TheVariants as part
 use Rattle.meta_rust_names.specs.declared.refused.RefusedName.{RefusedName}
-use Rattle.meta_program.specs.declared.places.ItemPlaces.{ItemPlaces}
+use Rattle.meta_program.specs.declared.told.ItemPlaces.{ItemPlaces}
 
 -- the setting of its group to which a part belongs, as the group is laid out, if it belongs to one
 abbrev pub setting_of : Part → Option ℕ

@@ -1,25 +1,21 @@
 -- What the words of the program ask for.
 --     AskOfItself words asked     what they ask of the program itself
 --     IsPlan words plan           all that they ask for
-use Rattle.std.specs.Prelude.{◌≡◌, ◌≢◌, ◌⊎◌, ⊤, ℕ, List, [], ◌∷◌, codes, Option, None, Some}
+use Rattle.std.specs.Prelude.{◌≡◌, ◌≢◌, ◌⊎◌, ⊤, ℕ, List, [], Option, None, Some}
 use Rattle.meta_command_line.specs.Asked.{AsksFor}
 use Rattle.meta_command_line.specs.declared.asked.Asked.{Asked}
 use Rattle.meta_command_line.specs.declared.asked.Asked.TheVariants as asks
 use Rattle.meta_program.specs.Over.{AskOverFile, IsOver, path_of, asked_of}
+use Rattle.meta_program.specs.TablesIn.{BeginWithVersion}
 use Rattle.meta_program.specs.Tool.{AreToolWords, AskSomething}
-use Rattle.meta_program.specs.declared.over.Over.{Over}
-use Rattle.meta_program.specs.declared.over.Over.TheVariants as of_over
+use Rattle.meta_program.specs.declared.plan.Over.{Over}
+use Rattle.meta_program.specs.declared.plan.Over.TheVariants as of_over
 use Rattle.meta_program.specs.declared.tool.Tool.{Tool}
 use Rattle.meta_program.specs.Names.{check_words}
-use Rattle.meta_program.specs.declared.names.Names.{Names}
+use Rattle.meta_program.specs.Wrong.{IsWrongIfAny}
+use Rattle.meta_program.specs.declared.plan.Names.{Names}
 use Rattle.meta_program.specs.declared.plan.Plan.{Plan}
 use Rattle.meta_program.specs.declared.plan.Plan.TheVariants.{Help, Version, Shared, File, Check, Nothing}
-
--- `tables --version` and a word, and any words after it
-pub record BeginWithVersion (words : List (List ℕ)) : Type 0 where
-  pub version : List ℕ
-  pub after : List (List ℕ)
-  pub are : words ≡ codes "tables" ∷ (codes "--version" ∷ (version ∷ after))
 
 -- the words begin in this way, or those that they ask of a file do
 abbrev pub AskForVersion : List (List ℕ) → Type 0
@@ -37,7 +33,7 @@ IsNoCheck (of_over.File path asked) = (names : Names) → asked.now ≢ check_wo
 
 -- What the words ask for: a tool over the shared declarations exactly if they ask nothing of a file; a check of a file exactly if what they
 -- ask of it are the words of a check, and else a tool over the file; and nothing exactly if what they ask are the words of no tool and of
--- no check of a file.
+-- no check of a file. Then the plan has what is wrong with them.
 abbrev pub IsPlan : List (List ℕ) → Plan → Type 0
 IsPlan words Help = AskOfItself words asks.Help
 IsPlan words Version = AskOfItself words asks.Version
@@ -46,7 +42,8 @@ IsPlan words (Shared tool) = AskOfItself words asks.Work × AreToolWords tool wo
 IsPlan words (File path tool) = AskOfItself words asks.Work × (asked : List (List ℕ)) × AskOverFile words path.now asked
     × AreToolWords tool asked × ((names : Names) → asked ≢ check_words names)
 IsPlan words (Check path names) = AskOfItself words asks.Work × AskOverFile words path.now (check_words names)
-IsPlan words (Nothing over) = AskOfItself words asks.Work × IsOver words over × (AskSomething (asked_of over) → ⊥) × IsNoCheck over
+IsPlan words (Nothing over wrong) = AskOfItself words asks.Work × IsOver words over × (AskSomething (asked_of over) → ⊥) × IsNoCheck over
+    × IsWrongIfAny over wrong
 
 -- the parts of a plan: what is asked of the program itself, the path of the file, the tool, and the words that are those of a check or ask
 -- nothing
@@ -62,4 +59,4 @@ planned Version = record { asked = asks.Version; path = None; tool = None; words
 planned (Shared tool) = record { asked = asks.Work; path = None; tool = Some tool; words = [] }
 planned (File path tool) = record { asked = asks.Work; path = Some path.now; tool = Some tool; words = [] }
 planned (Check path names) = record { asked = asks.Work; path = Some path.now; tool = None; words = check_words names }
-planned (Nothing over) = record { asked = asks.Work; path = path_of over; tool = None; words = asked_of over }
+planned (Nothing over wrong) = record { asked = asks.Work; path = path_of over; tool = None; words = asked_of over }

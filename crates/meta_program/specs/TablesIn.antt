@@ -1,5 +1,6 @@
 -- The tables in a version of their text.
 --     version_words v        the words that ask for the version
+--     BeginWithVersion words words that begin so, with any word for the version
 --     AreShownIn, IsShownIn  what is written for tables, and for declarations: the text of the tables, or that they don't fit the version
 use Rattle.std.specs.Prelude.{◌≡◌, ℕ, Bool, true, false, List, [], ◌∷◌, ◌++◌, codes}
 use Rattle.meta_build.specs.AllDeclared.{Declared}
@@ -19,6 +20,12 @@ version_word Three = codes "3"
 -- `--version` and the number
 abbrev pub version_words : Version → List (List ℕ)
 version_words version = codes "--version" ∷ (version_word version ∷ [])
+
+-- `tables --version` and a word, and any words after it
+pub record BeginWithVersion (words : List (List ℕ)) : Type 0 where
+  pub version : List ℕ
+  pub after : List (List ℕ)
+  pub are : words ≡ codes "tables" ∷ (codes "--version" ∷ (version ∷ after))
 
 -- the limits of a version; tables beyond them don't fit it, and all tables fit version 3
 abbrev pub limits_of : Version → List ℕ

@@ -13,8 +13,8 @@ use Rattle.meta_rust_names.specs.declared.refused.RefusedName.{RefusedName}
 use Rattle.meta_rust_names.specs.AllRefused.{refused_names}
 use Rattle.meta_program.specs.File.{AreReadOf}
 use Rattle.meta_program.specs.Places.{place_of_name}
-use Rattle.meta_program.specs.declared.names.Names.{Names}
-use Rattle.meta_program.specs.declared.names.Names.TheVariants.{Warn, Refuse}
+use Rattle.meta_program.specs.declared.plan.Names.{Names}
+use Rattle.meta_program.specs.declared.plan.Names.TheVariants.{Warn, Refuse}
 
 -- which part of an item has the name, and why Rust refuses it
 abbrev pub why_said : Names → RefusedName → List ℕ

@@ -1,10 +1,10 @@
 -- Why a file wasn't read whole.
 --     trouble_text trouble path     the text on it
 use Rattle.std.specs.Prelude.{ℕ, List, ◌++◌, Option, None, Some, codes}
-use Rattle.meta_program.specs.declared.file_ending.FileEnding.{FileEnding}
-use Rattle.meta_program.specs.declared.file_ending.FileEnding.TheVariants.{Ran, NamesRefused, Refused, FileFault, FileTooLong}
-use Rattle.meta_program.specs.declared.file_trouble.FileTrouble.{FileTrouble}
-use Rattle.meta_program.specs.declared.file_trouble.FileTrouble.TheVariants.{Missing, Forbidden, Folder, Unread, TooLong}
+use Rattle.meta_program.specs.declared.file_run.FileEnding.{FileEnding}
+use Rattle.meta_program.specs.declared.file_run.FileEnding.TheVariants.{Ran, NamesRefused, Refused, FileFault, FileTooLong}
+use Rattle.meta_program.specs.declared.file_run.FileTrouble.{FileTrouble}
+use Rattle.meta_program.specs.declared.file_run.FileTrouble.TheVariants.{Missing, Forbidden, Folder, Unread, TooLong}
 
 -- why a file wasn't read whole, by how a run over it or a check of it ended
 abbrev pub trouble_of : FileEnding → Option FileTrouble

@@ -6,12 +6,11 @@ use Rattle.meta_command_line.specs.Misuse.{AreCommandWords}
 use Rattle.meta_command_line.specs.Usage.{IsUsageLine}
 use Rattle.meta_command_line.specs.declared.manual.CommandForm.{CommandForm}
 use Rattle.meta_table_text.specs.declared.version.Version.{Version}
-use Rattle.meta_program.specs.declared.over.Over.{Over}
-use Rattle.meta_program.specs.declared.over.Over.TheVariants.{Shared, File}
-use Rattle.meta_program.specs.Over.{IsOption, rust_word}
-use Rattle.meta_program.specs.TablesIn.{version_word}
+use Rattle.meta_program.specs.declared.plan.Over.{Over}
+use Rattle.meta_program.specs.declared.plan.Over.TheVariants.{Shared, File}
+use Rattle.meta_program.specs.Over.{IsOption, asked_of, rust_word}
+use Rattle.meta_program.specs.TablesIn.{version_word, BeginWithVersion}
 use Rattle.meta_program.specs.Tool.{AskSomething}
-use Rattle.meta_program.specs.Plan.{BeginWithVersion}
 use Rattle.meta_program.specs.declared.wrong.Wrong.{Wrong}
 use Rattle.meta_program.specs.declared.wrong.Wrong.TheVariants.{FileMissing, WordTooMany, NoVersion, NoForm}
 
@@ -64,11 +63,6 @@ pub record BeginWithAsm (words : List (List ℕ)) : Type 0 where
   pub after : List (List ℕ)
   pub are : words ≡ codes "asm" ∷ after
 
--- the words that are asked
-abbrev pub words_over : Over → List (List ℕ)
-words_over (Shared words) = words.now
-words_over (File path words) = words.now
-
 -- a file is missing; it isn't if one is named
 abbrev pub IsFileMissing : Over → Type 0
 IsFileMissing (Shared words) = MissFile words.now
@@ -78,8 +72,8 @@ IsFileMissing (File path words) = ⊥
 abbrev pub IsWrong : Over → Wrong → Type 0
 IsWrong over FileMissing = IsFileMissing over
 IsWrong over (WordTooMany place) = IsTooMany over place
-IsWrong over NoVersion = NameNoVersion (words_over over)
-IsWrong over NoForm = BeginWithAsm (words_over over)
+IsWrong over NoVersion = NameNoVersion (asked_of over)
+IsWrong over NoForm = BeginWithAsm (asked_of over)
 
 -- that, or the list of commands says what is wrong
 abbrev pub IsWrongIfAny : Over → Option Wrong → Type 0
@@ -112,7 +106,7 @@ Says commands words None line = IsUsageLine commands words line
 pub record IsWrongLine (commands : List CommandForm) (over : Over) (line : List ℕ) : Type 0 where
   pub wrong : Option Wrong
   pub is_wrong : IsWrongIfAny over wrong
-  pub says : Says commands (words_over over) wrong line
+  pub says : Says commands (asked_of over) wrong line
 
 -- words of these commands ask something, but for `asm` alone
 abbrev pub AskWhatIsListed : List CommandForm → Type 0

@@ -1,15 +1,28 @@
-ghost use Rattle.std.specs.Prelude.{◌≡◌, ◌≢◌, ◌↔◌, ◌∷◌, [], codes, IfSome, IfNone, IsTrue};
+ghost use Rattle.std.specs.Prelude.{◌≡◌, ◌≢◌, ◌↔◌, ◌∷◌, [], codes, false, IfSome, IfNone, IsTrue};
+ghost use Rattle.std.specs.Option.{option_copied};
+ghost use Rattle.meta_run.specs.Run.{never_rejecting, Ran, IsRun, Runs};
 ghost use Rattle.meta_asm.specs.Form.{words_for};
 ghost use Rattle.meta_asm.specs.declared.form.Form as spec_form;
-ghost use Rattle.meta_program.specs.Tool.{AreToolWords, lone_name};
+ghost use Rattle.meta_table_text.specs.declared.version.Version as spec_version;
+ghost use Rattle.meta_program.specs.TablesIn.{version_word, version_words};
+ghost use Rattle.meta_program.specs.Telling.{rejection_text, about};
+ghost use Rattle.meta_program.specs.Tool.{AreToolWords, lone_name, reads_input, says_counts, texts_of};
 ghost use Rattle.meta_program.specs.declared.tool.Tool as spec;
 ghost use Rattle.meta_program.specs.declared.tool.Lone as spec_lone;
 
-use super::tables_in::version_asked;
+use super::laws::one_tool;
+use super::written::{counted, described, shown_in};
 use meta_asm::Form;
+use meta_audit::Auditor;
+use meta_build::{Built, Declarations, one_first_fault};
+use meta_flags::Service;
 use meta_query::Command;
+use meta_run::{Answer, Answerer, Ending, run_answerer};
 use meta_table_text::Version;
+use meta_text::{Sink, Source};
 use meta_types::Text;
+use meta_verify::Verifier;
+use std::alloc::{AllocError, Global};
 
 /// What can be asked over declarations.
 #[derive(Clone, Copy)]
@@ -30,6 +43,51 @@ pub enum Tool {
     Check,
     /// `describe`: the declarations as the text of a file.
     Describe,
+}
+
+fn version_named(number: &[u8]) -> Option<Version>
+    ensures some { IfSome result (λ v. number.now ≡ version_word v) }
+    ensures none { IfNone result ((v : spec_version.Version) → number.now ≢ version_word v) }
+{
+    if number == b"1".as_slice() {
+        return Some(Version::One);
+    }
+    if number == b"2".as_slice() {
+        return Some(Version::Two);
+    }
+    if number == b"3".as_slice() {
+        return Some(Version::Three);
+    }
+    None
+}
+
+/// Whether the words are `tables` and `--version`.
+pub(crate) fn are_for_version(name: &Text, option: &Text) -> bool
+    ensures { IsTrue result ↔ ((name.now ≡ codes "tables") × (option.now ≡ codes "--version")) }
+{
+    name.as_bytes() == b"tables".as_slice() && option.as_bytes() == b"--version".as_slice()
+}
+
+fn version_of_three(words: &[Text], name: &Text, option: &Text, number: &Text) -> Option<Version>
+    requires { words.now ≡ name.now ∷ (option.now ∷ (number.now ∷ [])) }
+    ensures some { IfSome result (λ v. words.now ≡ codes "tables" ∷ version_words v) }
+    ensures none { IfNone result ((v : spec_version.Version) → words.now ≢ codes "tables" ∷ version_words v) }
+{
+    if are_for_version(name, option) {
+        return version_named(number.as_bytes());
+    }
+    None
+}
+
+/// The version of the text of tables that the words ask for: `tables --version` and its number.
+pub(crate) fn version_asked(words: &[Text]) -> Option<Version>
+    ensures some { IfSome result (λ v. words.now ≡ codes "tables" ∷ version_words v) }
+    ensures none { IfNone result ((v : spec_version.Version) → words.now ≢ codes "tables" ∷ version_words v) }
+{
+    match words {
+        [name, option, number] => version_of_three(words, name, option, number),
+        _ => None,
+    }
 }
 
 /// A tool whose words are its name alone.
@@ -134,5 +192,112 @@ impl Tool {
             Some(lone) => Some(tool_of(lone)),
             None => None,
         }
+    }
+}
+
+impl Answerer for Tool {
+    ghost reads = { reads_input };
+
+    ghost texts = { texts_of };
+
+    /// Whether there is an input: `query`, `recheck`, `verify`, `asm`, `flags` and `audit` have one.
+    fn has_input(&self) -> bool {
+        match self {
+            Tool::Run(command) => command.has_input(),
+            Tool::Verify | Tool::Asm(_) | Tool::Flags | Tool::Audit => true,
+            Tool::TablesIn(_) | Tool::Check | Tool::Describe => false,
+        }
+    }
+
+    fn answer(&self, alloc: Global, built: &Built<'_>, input: &[u8]) -> Result<Answer, AllocError> {
+        match self {
+            Tool::Run(command) => command.answer(alloc, built, input),
+            Tool::TablesIn(version) => shown_in(alloc, *version, built),
+            Tool::Verify => Verifier.answer(alloc, built, input),
+            Tool::Asm(form) => form.answer(alloc, built, input),
+            Tool::Flags => Service.answer(alloc, built, input),
+            Tool::Audit => Auditor.answer(alloc, built, input),
+            Tool::Check => Ok(Answer {
+                text: counted(alloc, built)?,
+                is_rejection: false,
+            }),
+            Tool::Describe => described(alloc, built),
+        }
+    }
+}
+
+/// Says how much of each kind there is in declarations, as `run_words` does for `check`. Declarations with a fault are refused.
+pub fn run_check<S: Source, K: Sink>(
+    alloc: Global,
+    declarations: &Declarations,
+    source: &mut S,
+    sink: &mut K,
+) -> Ending
+    ensures { Ran S.left S.faults K.taken K.faults declarations.now source.old source.new sink.old sink.new
+        false (never_rejecting says_counts) result }
+{
+    run_answerer(alloc, &Tool::Check, declarations, source, sink)
+}
+
+fn attempt<S: Source, K: Sink>(
+    alloc: Global,
+    words: &[Text],
+    declarations: &Declarations,
+    source: &mut S,
+    sink: &mut K,
+) -> Ending
+    ensures { IsRun S.left S.faults K.taken K.faults declarations.now source.old source.new sink.old sink.new
+        (λ tool. AreToolWords tool words.now) reads_input texts_of result }
+{
+    match Tool::parse(words) {
+        Some(tool) => run_answerer(alloc, &tool, declarations, source, sink),
+        None => Ending::Usage,
+    }
+}
+
+/// Runs what the words ask over declarations. `verify`, `asm`, `flags` and `audit` answer as the calls of these names do for the words
+/// after them. `check` says how much of each kind is declared, and `describe` writes a file that declares the same. All other words are
+/// those of `run`.
+///
+/// The order is: the words; the declarations, which are refused by their first fault if they have one; the whole input, if there is one;
+/// the whole answer, in memory; the writes. `OutOfMemory` may come in any case but `Usage`.
+pub fn run_words<S: Source, K: Sink>(
+    alloc: Global,
+    words: &[Text],
+    declarations: &Declarations,
+    source: &mut S,
+    sink: &mut K,
+) -> Ending
+    // What was read and written, by how the run ended, and what is done where nothing fails. Each field is a fact of the call.
+    ensures runs { Runs S.left S.faults K.taken K.faults declarations.now source.old source.new sink.old sink.new
+        (λ tool. AreToolWords tool words.now) reads_input texts_of result }
+{
+    one_first_fault();
+    one_tool();
+    attempt(alloc, words, declarations, source, sink)
+}
+
+fn rejection(tool: Tool) -> Option<&'static str>
+    ensures { option_copied result ≡ rejection_text tool }
+{
+    match tool {
+        Tool::TablesIn(_) => Some("the tables don't fit the version"),
+        Tool::Describe => Some("no file of declarations says the same"),
+        Tool::Run(_) => meta_command_line::about(Ending::Rejected),
+        Tool::Verify => meta_command_line::about(Ending::Rejected),
+        Tool::Asm(_) => meta_command_line::about(Ending::Rejected),
+        Tool::Flags => meta_command_line::about(Ending::Rejected),
+        Tool::Audit => meta_command_line::about(Ending::Rejected),
+        Tool::Check => meta_command_line::about(Ending::Rejected),
+    }
+}
+
+/// Why the ending of a run of this tool isn't `Done`, for a person. `None` if it is.
+pub fn about(tool: Tool, ending: Ending) -> Option<&'static str>
+    ensures { option_copied result ≡ about tool ending }
+{
+    match ending {
+        Ending::Rejected => rejection(tool),
+        _ => meta_command_line::about(ending),
     }
 }

@@ -1,14 +1,20 @@
-ghost use Rattle.std.specs.Prelude.{◌≡◌, ◌↔◌, ◌∷◌, ℕ, IsTrue, IfSome, IfNone};
+ghost use Rattle.std.specs.Prelude.{◌≡◌, ◌<◌, ◌↔◌, ◌∷◌, [], ℕ, IsTrue, IfOk, IfSome, IfNone, Some, length, slice_get, string_bytes};
+ghost use Rattle.meta_command_line.specs.Misuse.{AreTaken};
+ghost use Rattle.meta_command_line.specs.Usage.{ArePlainlyNamed, IsPlain, IsUsageLine};
 ghost use Rattle.meta_table_text.specs.declared.version.Version as spec_version;
+ghost use Rattle.meta_program.specs.Over.{asked_of};
 ghost use Rattle.meta_program.specs.TablesIn.{version_word};
+ghost use Rattle.meta_program.specs.Tool.{AskSomething};
 ghost use Rattle.meta_program.specs.Wrong.{MissFile, CheckMore, CheckRustMore, RustMore, VersionMore, IsTooMany, NameNoVersion};
-ghost use Rattle.meta_program.specs.Wrong.{BeginWithAsm, IsFileMissing, IsWrong, words_over};
+ghost use Rattle.meta_program.specs.Wrong.{BeginWithAsm, IsFileMissing, IsWrong, IsWrongIfAny, AskWhatIsListed};
+ghost use Rattle.meta_program.specs.Wrong.{SaysFileMissing, SaysTooMany, Says, IsWrongLine};
 ghost use Rattle.meta_program.specs.declared.wrong.Wrong as spec;
 
-use super::over::{Over, is_check, is_option, is_rust};
-use super::tables_in::are_for_version;
-use super::tool::is_asm;
+use super::plan::{Over, is_check, is_option, is_rust};
+use super::tool::{are_for_version, is_asm};
+use meta_command_line::{CommandForm, usage_line};
 use meta_types::Text;
+use std::alloc::{AllocError, Global};
 
 /// What is wrong with words that ask nothing, apart from what the list of commands says.
 #[derive(Clone, Copy, Debug, PartialEq, Eq)]
@@ -153,15 +159,6 @@ fn too_many(over: &Over<'_>) -> Option<usize>
     }
 }
 
-pub(crate) fn words_of<'w>(over: &Over<'w>) -> &'w [Text]
-    ensures { result.now ≡ words_over over.now }
-{
-    match over {
-        Over::Shared(words) => words,
-        Over::File(_, words) => words,
-    }
-}
-
 impl Wrong {
     /// What is wrong with words that ask nothing over the shared declarations or a file. It is `None` if the list of commands says what is
     /// wrong.
@@ -176,10 +173,112 @@ impl Wrong {
         if let Some(place) = too_many(over) {
             return Some(Wrong::WordTooMany(place));
         }
-        let words = words_of(over);
+        let words = over.asked();
         if name_no_version(words) {
             return Some(Wrong::NoVersion);
         }
         begin_with_asm(words).then_some(Wrong::NoForm)
     }
+}
+
+fn word_at(words: &[Text], place: usize) -> &Text
+    requires { place < length words.now }
+    ensures { slice_get words.now place ≡ Some result.now }
+{
+    &words[place]
+}
+
+/// The line that a file is missing for the first word.
+fn file_missing(alloc: Global, words: &[Text]) -> Result<String, AllocError>
+    requires { MissFile words.now }
+    ensures plain { IfOk result (λ line. IsPlain (string_bytes line)) }
+    ensures line { IfOk result (λ line. SaysFileMissing words.now (string_bytes line)) }
+{
+    let name = word_at(words, 0);
+    let name = name.as_str();
+    format!(in alloc; "a file is missing for '{name}'")
+}
+
+fn both(alloc: Global, name: &Text, word: &Text) -> Result<Vec<Text>, AllocError>
+    ensures { IfOk result (λ words. words.items ≡ name.now ∷ (word.now ∷ [])) }
+{
+    let mut words = Vec::new(alloc);
+    words.push(name.copy(alloc)?)?;
+    words.push(word.copy(alloc)?)?;
+    Ok(words)
+}
+
+fn usage_of_both(
+    alloc: Global,
+    commands: &'static [CommandForm],
+    name: &Text,
+    word: &Text,
+) -> Result<String, AllocError>
+    requires { AreTaken commands.now (name.now ∷ (word.now ∷ [])) → ⊥ }
+    ensures plain { ArePlainlyNamed commands.now → IfOk result (λ line. IsPlain (string_bytes line)) }
+    ensures line { IfOk result (λ line. IsUsageLine commands.now (name.now ∷ (word.now ∷ [])) (string_bytes line)) }
+{
+    let words = both(alloc, name, word)?;
+    usage_line(alloc, commands, &words)
+}
+
+/// The line that the word at this place is too many.
+fn word_too_many(
+    alloc: Global,
+    commands: &'static [CommandForm],
+    over: &Over<'_>,
+    words: &[Text],
+    place: usize,
+) -> Result<String, AllocError>
+    requires listed { AskWhatIsListed commands.now }
+    requires words { words.now ≡ asked_of over.now }
+    requires place { IsTooMany over.now place }
+    ensures plain { ArePlainlyNamed commands.now → IfOk result (λ line. IsPlain (string_bytes line)) }
+    ensures line { IfOk result (λ line. SaysTooMany commands.now words.now place (string_bytes line)) }
+{
+    let name = word_at(words, 0);
+    let word = word_at(words, place);
+    usage_of_both(alloc, commands, name, word)
+}
+
+fn said(
+    alloc: Global,
+    commands: &'static [CommandForm],
+    over: &Over<'_>,
+    wrong: Option<Wrong>,
+) -> Result<String, AllocError>
+    requires listed { AskWhatIsListed commands.now }
+    requires wrong { IsWrongIfAny over.now wrong }
+    ensures plain { ArePlainlyNamed commands.now → IfOk result (λ line. IsPlain (string_bytes line)) }
+    ensures line { (AskSomething (asked_of over.now) → ⊥)
+        → IfOk result (λ line. Says commands.now (asked_of over.now) wrong (string_bytes line)) }
+{
+    let words = over.asked();
+    match wrong {
+        Some(Wrong::FileMissing) => file_missing(alloc, words),
+        Some(Wrong::WordTooMany(place)) => word_too_many(alloc, commands, over, words, place),
+        Some(Wrong::NoVersion) => {
+            String::from_str(alloc, "the versions of 'tables' are 1, 2 and 3")
+        }
+        Some(Wrong::NoForm) => String::from_str(alloc, "the forms of 'asm' are short and explicit"),
+        None => usage_line(alloc, commands, words),
+    }
+}
+
+/// What is wrong with words that ask nothing over the shared declarations or a file, in one line, without its line feed. `commands` are the
+/// commands, as `listed_tools` lists them, and `wrong` is what `Plan::of` or `Wrong::of` found. If the names of the commands are plain, each
+/// byte of the line is plain.
+pub fn wrong_line(
+    alloc: Global,
+    commands: &'static [CommandForm],
+    over: &Over<'_>,
+    wrong: Option<Wrong>,
+) -> Result<String, AllocError>
+    requires listed { AskWhatIsListed commands.now }
+    requires wrong { IsWrongIfAny over.now wrong }
+    ensures plain { ArePlainlyNamed commands.now → IfOk result (λ line. IsPlain (string_bytes line)) }
+    ensures line { (AskSomething (asked_of over.now) → ⊥)
+        → IfOk result (λ line. IsWrongLine commands.now over.now (string_bytes line)) }
+{
+    said(alloc, commands, over, wrong)
 }

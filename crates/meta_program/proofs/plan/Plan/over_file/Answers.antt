@@ -1,3 +1,5 @@
+use Rattle.meta_program.specs.declared.plan.Over.TheVariants.{File}
+use Rattle.meta_program.proofs.NotWrong.{wrong_if_any}
 use Rattle.meta_program.proofs.plan.Plan.over_file.Goals as goal
 
 pub returns-in-Some-parse : goal.returns-in-Some-parse
@@ -5,4 +7,10 @@ returns-in-Some-parse c =
     (c.requires.work, c.args.asked.now, c.requires.over, c.in-Some-parse.ensures.some, c.in_default.ensures.none)
 
 pub returns-in-None : goal.returns-in-None
-returns-in-None c = (c.requires.work, c.requires.over, (λ asks. c.in-None.ensures.none asks.0 asks.1), c.in_default.ensures.none)
+returns-in-None c = (
+  c.requires.work,
+  c.requires.over,
+  (λ asks. c.in-None.ensures.none asks.0 asks.1),
+  c.in_default.ensures.none,
+  wrong_if_any (File c.args.path c.args.asked) c.of-wrong.result c.of-wrong.ensures.some c.of-wrong.ensures.none,
+)

@@ -4,4 +4,4 @@ use Rattle.meta_program.proofs.wrong.Wrong.of.Goals as goal
 
 pub returns-then-name_no_version-clause-some : goal.returns-then-name_no_version-clause-some
 returns-then-name_no_version-clause-some c =
-    subst NameNoVersion c.words_of-words.ensures (c.name_no_version.ensures.0 c.if-name_no_version.true)
+    subst NameNoVersion c.asked-words.ensures (c.name_no_version.ensures.0 c.if-name_no_version.true)

@@ -1,7 +1,7 @@
 use Rattle.std.proofs.Common.{◌≡◌, ◌∙◌, ◌++◌, ap, codes, string_bytes, rules}
 use Rattle.std.proofs.lemmas.Result.{IfOk-weaker}
 use Rattle.meta_program.proofs.PlainLine.{missing_text, missing_plain, missing_within}
-use Rattle.meta_program.proofs.saying.file_missing.Goals as goal
+use Rattle.meta_program.proofs.wrong.file_missing.Goals as goal
 
 pub word_at-name-requires : goal.word_at-name-requires
 word_at-name-requires c = missing_within c.args.words.now c.requires

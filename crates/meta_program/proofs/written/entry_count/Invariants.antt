@@ -1,6 +1,6 @@
 use Rattle.std.proofs.Common.{◌≡◌, ◌+◌, drop}
 use Rattle.meta_program.specs.Counts.{laid_entries_in}
-use Rattle.meta_program.proofs.checking.entry_count.Given as goal
+use Rattle.meta_program.proofs.written.entry_count.Given as goal
 
 -- the entries so far, and those of the groups that are left
 abbrev pub invariant-loop-group : goal.invariant-loop-group

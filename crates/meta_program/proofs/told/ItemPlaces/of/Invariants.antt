@@ -1,6 +1,6 @@
 use Rattle.std.proofs.Common.{◌≡◌, ◌++◌, drop}
 use Rattle.meta_file_declare.specs.Places.{is_inst, is_format, is_group, places_from, places_of}
-use Rattle.meta_program.proofs.places.ItemPlaces.of.Given as goal
+use Rattle.meta_program.proofs.told.ItemPlaces.of.Given as goal
 
 -- the places so far, and those that are left
 abbrev pub invariant-loop-place : goal.invariant-loop-place

@@ -1,5 +1,5 @@
 use Rattle.std.proofs.Common.{inl, inr, refl}
-use Rattle.meta_program.proofs.running.attempt.Goals as goal
+use Rattle.meta_program.proofs.tool.attempt.Goals as goal
 
 pub returns-in-None : goal.returns-in-None
 returns-in-None g c = inr (c.in-None.ensures.none, refl, refl, refl)

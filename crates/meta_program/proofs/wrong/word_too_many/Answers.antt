@@ -1,7 +1,7 @@
 use Rattle.std.proofs.Common.{ℕ, List, Some, length, slice_get, subst, ap, arith, ◌≡◌}
 use Rattle.meta_program.proofs.Entries.{none_after}
 use Rattle.meta_program.proofs.OneWrong.{too_many_within}
-use Rattle.meta_program.proofs.saying.word_too_many.Goals as goal
+use Rattle.meta_program.proofs.wrong.word_too_many.Goals as goal
 
 pub word_at-name-requires : goal.word_at-name-requires
 word_at-name-requires c =

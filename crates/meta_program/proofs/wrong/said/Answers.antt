@@ -4,16 +4,16 @@ use Rattle.meta_program.specs.Tool.{AskSomething}
 use Rattle.meta_program.proofs.Entries.{none_taken}
 use Rattle.meta_program.proofs.NotWrong.{not_asm}
 use Rattle.meta_program.proofs.PlainLine.{plain_line}
-use Rattle.meta_program.proofs.saying.said.Goals as goal
+use Rattle.meta_program.proofs.wrong.said.Goals as goal
 
 pub returns-in-None-clause-line : goal.returns-in-None-clause-line
 returns-in-None-clause-line c = λ nothing.
     let is : c.args.wrong ≡ None = search rules in
-    let same = c.words_of-words.ensures in
+    let same = c.asked-words.ensures in
     IfOk-weaker c.usage_line.result _ _ (λ line e. search (rules, e))
-    (c.usage_line.ensures.line (none_taken c.args.commands.now c.words_of-words.result.now c.requires.listed
+    (c.usage_line.ensures.line (none_taken c.args.commands.now c.asked-words.result.now c.requires.listed
     (λ asks. nothing (subst AskSomething same asks))
-    (not_asm c.args.over.now c.args.wrong c.words_of-words.result.now is c.requires.wrong same)))
+    (not_asm c.args.over.now c.args.wrong c.asked-words.result.now is c.requires.wrong same)))
 
 pub returns-in-Some-NoVersion-clause-plain : goal.returns-in-Some-NoVersion-clause-plain
 returns-in-Some-NoVersion-clause-plain c = λ named.

@@ -1,5 +1,5 @@
 use Rattle.meta_run.proofs.Programs as lemma
-use Rattle.meta_program.proofs.running.run_words.Goals as goal
+use Rattle.meta_program.proofs.tool.run_words.Goals as goal
 
 pub returns : goal.returns
 returns g c = record {

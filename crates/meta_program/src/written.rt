@@ -1,10 +1,69 @@
 ghost use Rattle.std.specs.Prelude.{◌≡◌, ◌+◌, IfOk, length, string_bytes};
+ghost use Rattle.meta_program.specs.TablesIn.{version_word, limits_of, unfit_line, AreShownIn, IsShownIn};
 ghost use Rattle.meta_program.specs.Counts.{entries_in, laid_entries_in, check_line, IsCheckLine};
+ghost use Rattle.meta_program.specs.Described.{undescribed_line, AreDescribed};
 
 use meta_build::Built;
+use meta_file_describe::write_description;
 use meta_gen::{Tables, tables_of};
+use meta_run::Answer;
 use meta_settings::SettingGroup;
+use meta_table_text::{Version, fits, table_text};
 use std::alloc::{AllocError, Global};
+
+fn word_of(version: Version) -> &'static str
+    ensures { result.now ≡ version_word version }
+{
+    match version {
+        Version::One => "1",
+        Version::Two => "2",
+        Version::Three => "3",
+    }
+}
+
+fn limits_of(version: Version) -> &'static str
+    ensures { result.now ≡ limits_of version }
+{
+    match version {
+        Version::One => "at most 255 opcodes and 255 type sets, and no second control",
+        Version::Two => "at most 255 opcodes and 255 type sets",
+        Version::Three => "all tables",
+    }
+}
+
+fn unfit(alloc: Global, version: Version) -> Result<String, AllocError>
+    ensures { IfOk result (λ out. string_bytes out ≡ unfit_line version) }
+{
+    let (number, limits) = (word_of(version), limits_of(version));
+    format!(in alloc; "unfit: version {number} holds {limits}\n")
+}
+
+/// The text of the tables in the version if they fit it, and else, as a rejection, that they don't.
+fn shown(alloc: Global, version: Version, tables: &Tables) -> Result<Answer, AllocError>
+    ensures { IfOk result (λ answer. AreShownIn version tables.now answer.is_rejection (string_bytes answer.text)) }
+{
+    if !fits(version, tables) {
+        return Ok(Answer {
+            text: unfit(alloc, version)?,
+            is_rejection: true,
+        });
+    }
+    Ok(Answer {
+        text: table_text(alloc, version, tables)?,
+        is_rejection: false,
+    })
+}
+
+/// The same for the tables of what was built of declarations.
+pub(crate) fn shown_in(
+    alloc: Global,
+    version: Version,
+    built: &Built<'_>,
+) -> Result<Answer, AllocError>
+    ensures { IfOk result (λ answer. IsShownIn version built.now.declared answer.is_rejection (string_bytes answer.text)) }
+{
+    shown(alloc, version, &tables_of(alloc, built)?)
+}
 
 #[derive(Clone, Copy)]
 struct Counts {
@@ -77,4 +136,30 @@ pub(crate) fn counted(alloc: Global, built: &Built<'_>) -> Result<String, AllocE
     let tables = tables_of(alloc, built)?;
     let counts = counts_of(built, &tables)?;
     counts.line(alloc)
+}
+
+/// The line that no file of the form describes the declarations.
+fn undescribed(alloc: Global) -> Result<String, AllocError>
+    ensures { IfOk result (λ line. string_bytes line ≡ undescribed_line) }
+{
+    String::from_str(
+        alloc,
+        "undescribed: no file of this form declares the same\n",
+    )
+}
+
+/// The declarations as the text of a file, and a rejection if there is no such text.
+pub(crate) fn described(alloc: Global, built: &Built<'_>) -> Result<Answer, AllocError>
+    ensures { IfOk result (λ answer. AreDescribed built.now.declared answer.is_rejection (string_bytes answer.text)) }
+{
+    match write_description(alloc, built)? {
+        Some(text) => Ok(Answer {
+            text,
+            is_rejection: false,
+        }),
+        None => Ok(Answer {
+            text: undescribed(alloc)?,
+            is_rejection: true,
+        }),
+    }
 }
