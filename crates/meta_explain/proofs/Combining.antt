@@ -99,9 +99,11 @@ module _ (tables : TableContents) (op : ℕ) (c : ControlTypes) (e : OpcodeNumbe
         omega (arith, length-append rs vs, results, values)
 
     -- each operand passes now
-    passes_now : (j m : ℕ) → slice_get (slice_set (rs ++ vs) k n) j ≡ Some m → PassesAt tables (numbers_of c) (a.entry.constraint_offset + j) m
+    passes_now : (j m : ℕ) → slice_get (slice_set (rs ++ vs) k n) j ≡ Some m
+        → PassesAt tables (numbers_of c) (a.entry.constraint_offset + j) m
     passes_now j m there = ⊎_elim
-        (λ same. subst (λ i. slice_get (slice_set (rs ++ vs) k n) i ≡ Some m → PassesAt tables (numbers_of c) (a.entry.constraint_offset + i) m)
+        (λ same. subst (λ i. slice_get (slice_set (rs ++ vs) k n) i ≡ Some m
+        → PassesAt tables (numbers_of c) (a.entry.constraint_offset + i) m)
         (sym same)
         (λ here. subst (PassesAt tables (numbers_of c) (a.entry.constraint_offset + k))
         (same_Some n m (sym (get_set_here (rs ++ vs) k n inside) ∙ here))

@@ -1,6 +1,6 @@
 -- Lists that have exactly what they are to have, in order.
-use Rattle.std.proofs.Common.{◌≡◌, ◌<◌, ◌+◌, ◌⊎◌, inl, inr, ⊎_elim, ℕ, List, [], ◌∷◌, ◌++◌, length, slice_get, Some, Contains, refl, sym}
-use Rattle.std.proofs.Common.{subst, arith}
+use Rattle.std.proofs.Common.{◌≡◌, ◌<◌, ◌≤◌, ◌+◌, ◌⊎◌, inl, inr, ⊎_elim, ℕ, List, [], ◌∷◌, ◌++◌, length, slice_get, Some, Contains, refl}
+use Rattle.std.proofs.Common.{sym, subst, arith}
 use Rattle.std.proofs.lemmas.Bool.{cases_eq}
 use Rattle.std.proofs.lemmas.Option.{slice_get_within, get_or_from_slice_get}
 use Rattle.std.proofs.lemmas.List.Elements.{Contains-append_left, Contains-append_right, Contains-append_cases}
@@ -32,7 +32,9 @@ module _ {X : Type 0} (Before : X → X → Type 0) where
       λ c. only_one P x y p (contains_cases x y [] c),
       λ q. subst (Contains (x ∷ [])) (only y q) (contains_first x []),
     );
-    order = λ j k y z l at there. let within : k < length (x ∷ []) = slice_get_within (x ∷ []) k z there in absurd (omega (arith, l, within));
+    order = λ j k y z l at there.
+        let within : k < length (x ∷ []) = slice_get_within (x ∷ []) k z there in
+        absurd (omega (arith, l, within));
   }
 
   -- a list has what it has under another name
@@ -95,3 +97,14 @@ number_same P xs n never h =
     (λ x before. let l = before.0 in (omega (arith, l), before.1))
     (λ x before. ⊎_elim (λ b. b) (λ e. absurd (never (subst P (sym e) before.1))) (before_next P n x before))
     h
+
+-- nothing is listed before the least number of which P holds
+pub numbers_none : (P : ℕ → Type 0) (xs : List ℕ) (n : ℕ) → xs ≡ [] → ((m : ℕ) → P m → n ≤ m) → AreListed IsLess (BeforeAnd P n) xs
+numbers_none P xs n empty least =
+    subst (AreListed IsLess (BeforeAnd P n)) (sym empty)
+    (listed_none IsLess (BeforeAnd P n) (λ m (l, p). let low = least m p in omega (arith, l, low)))
+
+-- and all are listed after the greatest
+pub numbers_all : (P : ℕ → Type 0) (xs : List ℕ) (n : ℕ) → ((m : ℕ) → P m → m < n) → AreListed IsLess (BeforeAnd P n) xs
+    → AreListed IsLess P xs
+numbers_all P xs n most h = listed_same IsLess (BeforeAnd P n) P xs (λ m (l, p). p) (λ m p. (most m p, p)) h

@@ -16,7 +16,8 @@ control_passes tables c a place n at p =
     subst (λ x. NumberPasses tables c x n) (same_Some p.constraint (SameNumber a) (sym p.is_constraint ∙ at)) p.passes
 
 -- so a number that is asked for there tells the control
-pub told_by : (tables : TableContents) (a : Which) (offset : ℕ) (asked : List (Option ℕ)) (k : ℕ) (o : Option ℕ) → slice_get asked k ≡ Some o
+pub told_by : (tables : TableContents) (a : Which) (offset : ℕ) (asked : List (Option ℕ)) (k : ℕ) (o : Option ℕ)
+    → slice_get asked k ≡ Some o
     → slice_get tables.operand_constraints (offset + k) ≡ Some (SameNumber a)
     → IfSome o (λ n. (c : Which → Option ℕ) → AllCanPass tables c offset asked → c a ≡ Some n)
 told_by tables a offset asked k None at is = tt

@@ -1,5 +1,6 @@
 -- What passes a constraint is the number of a type, where the controls are.
-use Rattle.std.proofs.Common.{◌≡◌, ◌<◌, ◌≤◌, ◌==◌, ◌&&◌, Bool, true, false, ltb, MatchBool, ℕ, length, Option, None, Some, refl, sym, ◌∙◌, subst}
+use Rattle.std.proofs.Common.{◌≡◌, ◌<◌, ◌≤◌, ◌==◌, ◌&&◌, Bool, true, false, ltb, MatchBool, ℕ, length, Option, None, Some, refl, sym, ◌∙◌}
+use Rattle.std.proofs.Common.{subst}
 use Rattle.std.proofs.Common.{arith}
 use Rattle.std.proofs.lemmas.Bool.{and_parts, ltb-true, eq-eqb, ne_eqb, MatchBool-at_true, MatchBool-at_false}
 use Rattle.std.proofs.lemmas.Option.{same_Some}
@@ -9,7 +10,8 @@ use Rattle.meta_types.specs.TypeNumber.{type_with, IsTypeNumber}
 use Rattle.meta_types.proofs.AllTypes.{at_all, at_all_types}
 use Rattle.meta_types.proofs.TypeNumbers.{number_is_one}
 use Rattle.meta_inst.specs.Which.{Which, First, Second}
-use Rattle.meta_inst.specs.Tables.{TableContents, OpcodeNumbers, NumberConstraint, ConcreteNumber, FreeOf, SameNumber, ByNumber, NumberPasses}
+use Rattle.meta_inst.specs.Tables.{TableContents, OpcodeNumbers, NumberConstraint, ConcreteNumber, FreeOf, SameNumber, ByNumber}
+use Rattle.meta_inst.specs.Tables.{NumberPasses}
 use Rattle.meta_inst.specs.Tables.{SetContains, ControlNumberFits, no_type_set}
 use Rattle.meta_gen.specs.WellFormedOpcodes.{IsWellFormedOpcodes, IsWellFormedConstraint}
 use Rattle.meta_explain.specs.Parts.{numbers_of}

@@ -5,11 +5,13 @@ use Rattle.std.specs.Prelude.{◌≡◌, ◌<◌, ◌≤◌, ◌+◌, ℕ, List,
 use Rattle.meta_types.specs.TypeNumber.{IsTypeNumber}
 use Rattle.meta_inst.specs.Which.{Which, First, Second}
 use Rattle.meta_inst.specs.Tables.{TableContents, OpcodeNumbers, ControlNumberFits, PassesAt}
+use Rattle.meta_gen.specs.Constraint.{entry_of}
 use Rattle.meta_explain.specs.Listed.{AreListed}
 use Rattle.meta_explain.specs.Parts.{numbers_of}
 use Rattle.meta_explain.specs.Found.{IsBefore, control_place}
 use Rattle.meta_explain.specs.declared.found.Found.{Found}
 use Rattle.meta_explain.specs.declared.searching.Places.{Places}
+use Rattle.meta_explain.specs.declared.searching.Search.{Search}
 
 -- what passes a constraint under these controls is the number of a type
 abbrev pub TypesAlonePass : TableContents → (Which → Option ℕ) → Type 0
@@ -50,6 +52,10 @@ pub record IsFoundBy (tables : TableContents) (op : ℕ) (e : OpcodeNumbers) (re
   pub fits : (a : Which) → ControlNumberFits tables (offset_of e a) (numbers_of x.controls a)
   pub results_pass : AllCanPass tables (numbers_of x.controls) e.constraint_offset results
   pub values_pass : AllCanPass tables (numbers_of x.controls) (e.constraint_offset + length results) values
+
+-- x is found by this search
+abbrev pub IsFoundIn : Search → Found → Type 0
+IsFoundIn s x = IsFoundBy s.tables.now s.opcode (entry_of s.entry) s.results.now s.values.now x
 
 -- the place of the control is one of these
 abbrev pub IsWithin : Places → Option ℕ → Type 0

@@ -5,7 +5,7 @@ ghost use Rattle.meta_gen.specs.WellFormedOpcodes.{IsWellFormedOpcodes};
 ghost use Rattle.meta_gen.specs.Constraint.{number_constraint_of, entry_of};
 ghost use Rattle.meta_explain.specs.Parts.{numbers_of};
 ghost use Rattle.meta_explain.specs.Found.{control_place};
-ghost use Rattle.meta_explain.specs.Search.{TypesAlonePass, CanPass, AllCanPass, Tells, offset_of, IsFoundBy, IsWithin, Adds};
+ghost use Rattle.meta_explain.specs.Search.{TypesAlonePass, CanPass, AllCanPass, Tells, offset_of, IsFoundIn, IsWithin, Adds};
 ghost use Rattle.meta_explain.specs.declared.found.Found.{Found};
 
 use super::control_types::ControlTypes;
@@ -125,9 +125,7 @@ impl Search<'_> {
     /// The controlling type that is told by what is asked for.
     fn told(&self, which: Which) -> Option<u16>
         requires { length self.now.results.now ≤ 7 }
-        ensures { IfSome result (λ n. (x : Found) → IsFoundBy self.now.tables.now self.now.opcode (entry_of self.now.entry) self.now.results.now
-            self.now.values.now x
-            → numbers_of x.controls (which_of which) ≡ Some n) }
+        ensures { IfSome result (λ n. (x : Found) → IsFoundIn self.now x → numbers_of x.controls (which_of which) ≡ Some n) }
     {
         let offset = self.entry.constraint_offset as usize;
         if let Some(number) = told_at(self.tables, which, offset, self.results) {
@@ -139,9 +137,7 @@ impl Search<'_> {
     /// The places where the control can stand of what is found.
     fn places(&self, which: Which) -> Places
         requires { length self.now.results.now ≤ 7 }
-        ensures within { (x : Found) → IsFoundBy self.now.tables.now self.now.opcode (entry_of self.now.entry) self.now.results.now
-            self.now.values.now x
-            → IsWithin result (numbers_of x.controls (which_of which)) }
+        ensures within { (x : Found) → IsFoundIn self.now x → IsWithin result (numbers_of x.controls (which_of which)) }
         ensures few { result.end ≤ 65537 }
     {
         if offset_of(self.entry, which) == NO_TYPE_SET {
@@ -168,9 +164,7 @@ impl Search<'_> {
         requires few { length self.now.results.now ≤ 7 }
         requires well_formed { IsWellFormedOpcodes self.now.tables.now }
         requires fits { ControlNumberFits self.now.tables.now self.now.entry.typeset_offset controls.ctrl }
-        ensures { OnOk result (Adds (λ x. IsFoundBy self.now.tables.now self.now.opcode (entry_of self.now.entry) self.now.results.now
-            self.now.values.now x
-            × (x.controls ≡ controls)) found.old.items found.new.items) }
+        ensures { OnOk result (Adds (λ x. IsFoundIn self.now x × (x.controls ≡ controls)) found.old.items found.new.items) }
     {
         if !self
             .tables
@@ -201,9 +195,7 @@ impl Search<'_> {
     fn push_under(&self, ctrl: Option<u16>, found: &mut Vec<Found>) -> Result<(), AllocError>
         requires few { length self.now.results.now ≤ 7 }
         requires well_formed { IsWellFormedOpcodes self.now.tables.now }
-        ensures { OnOk result (Adds (λ x. IsFoundBy self.now.tables.now self.now.opcode (entry_of self.now.entry) self.now.results.now
-            self.now.values.now x
-            × (x.controls.ctrl ≡ ctrl)) found.old.items found.new.items) }
+        ensures { OnOk result (Adds (λ x. IsFoundIn self.now x × (x.controls.ctrl ≡ ctrl)) found.old.items found.new.items) }
     {
         if !self.tables.control_fits(self.entry.typeset_offset, ctrl) {
             return Ok(());
@@ -220,8 +212,7 @@ impl Search<'_> {
     pub(crate) fn push_all(&self, found: &mut Vec<Found>) -> Result<(), AllocError>
         requires few { length self.now.results.now ≤ 7 }
         requires well_formed { IsWellFormedOpcodes self.now.tables.now }
-        ensures { OnOk result (Adds (λ x. IsFoundBy self.now.tables.now self.now.opcode (entry_of self.now.entry) self.now.results.now
-            self.now.values.now x) found.old.items found.new.items) }
+        ensures { OnOk result (Adds (IsFoundIn self.now) found.old.items found.new.items) }
     {
         let places = self.places(Which::First);
         for place in places.from..places.end {

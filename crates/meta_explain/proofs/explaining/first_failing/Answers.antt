@@ -15,7 +15,8 @@ returns-then-not-control_fits-2-clause-some c =
 
 pub returns-then-results-result_count-clause-some : goal.returns-then-results-result_count-clause-some
 returns-then-results-result_count-clause-some c =
-    fails_results _ _ _ _ _ (c.control_fits.ensures.0 c.if-not-control_fits.false) (c.control_fits-2.ensures.0 c.if-not-control_fits-2.false)
+    fails_results _ _ _ _ _ (c.control_fits.ensures.0 c.if-not-control_fits.false)
+    (c.control_fits-2.ensures.0 c.if-not-control_fits-2.false)
     (λ e. let t = c.result_count.ensures in omega arith)
 
 pub returns-then-values-value_count-clause-some : goal.returns-then-values-value_count-clause-some
@@ -31,5 +32,6 @@ returns-in_err-operand-clause-none c =
 
 pub returns-clause-some : goal.returns-clause-some
 returns-clause-some c =
-    fails_operand _ _ _ _ _ (c.control_fits.ensures.0 c.if-not-control_fits.false) (c.control_fits-2.ensures.0 c.if-not-control_fits-2.false)
+    fails_operand _ _ _ _ _ (c.control_fits.ensures.0 c.if-not-control_fits.false)
+    (c.control_fits-2.ensures.0 c.if-not-control_fits-2.false)
     (search rules) (search rules) _ c.in_ok-operand.ensures.some

@@ -18,7 +18,8 @@ returns-in_default c =
     let t = c.args.tables.now in
     let P = λ (x : Found). (x.opcode ≡ c.args.opcode) × AcceptsSome t c.args.opcode x.controls in
     subst (AreListed IsBefore P) (sym c.new-found.ensures.items) (listed_none IsBefore P
-    (λ x (is, some). false≢true (c.in_default.ensures.opcode.1 (is_opcode t.entries c.args.opcode some.accepts.entry some.accepts.is_opcode))))
+    (λ x (is, some). false≢true (c.in_default.ensures.opcode.1
+    (is_opcode t.entries c.args.opcode some.accepts.entry some.accepts.is_opcode))))
 
 pub push_opcode-requires : goal.push_opcode-requires
 push_opcode-requires c = c.opcode_count-count.ensures.well_formed

@@ -47,8 +47,8 @@ returns-then-not-all_can_pass c =
     take-replicate c.result_count.result 7 None c.result_count.ensures.few ∙ ap (λ n. replicate n None) c.result_count.ensures.count in (
       λ t. absurd (false≢true t),
       λ some. absurd (false≢true (sym c.if-not-all_can_pass.true ∙ c.all_can_pass.ensures.1
-          (some_by c.args.tables.now c.args.opcode e c.in-Some.ensures.entry r (replicate (value_count e.flags) None) any refl c.args.controls
-          some).results_pass)),
+          (some_by c.args.tables.now c.args.opcode e c.in-Some.ensures.entry r (replicate (value_count e.flags) None) any refl
+          c.args.controls some).results_pass)),
     )
 
 pub returns : goal.returns
@@ -64,5 +64,6 @@ returns c =
       λ true_is. by_some t c.args.opcode e c.in-Some.ensures.entry r v any any_too c.args.controls
           (c.control_fits.ensures.0 c.if-not-control_fits.false) (c.control_fits-2.ensures.0 c.if-not-control_fits-2.false)
           (c.all_can_pass.ensures.0 c.if-not-all_can_pass.false) (c.all_can_pass-2.ensures.0 true_is),
-      λ some. c.all_can_pass-2.ensures.1 (some_by t c.args.opcode e c.in-Some.ensures.entry r v any any_too c.args.controls some).values_pass,
+      λ some. c.all_can_pass-2.ensures.1 (some_by t c.args.opcode e c.in-Some.ensures.entry r v any any_too
+          c.args.controls some).values_pass,
     )

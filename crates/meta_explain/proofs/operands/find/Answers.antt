@@ -11,7 +11,8 @@ pub loop-before-init : goal.loop-before-init
 loop-before-init c =
     let F = Finds c.args.tables.now c.args.results.now c.args.values.now in
     subst (Adds (OpcodeBefore F (0 + 1)) []) (sym c.new-found.ensures.items) (adds_none (OpcodeBefore F (0 + 1)) []
-    (λ x (l, f). let op = found_opcode c.args.tables.now c.args.results.now c.args.values.now x f in let some = op.0 in omega (arith, l, some)))
+    (λ x (l, f). let op = found_opcode c.args.tables.now c.args.results.now c.args.values.now x f in
+    let some = op.0 in omega (arith, l, some)))
 
 pub loop-before-preserved : goal.loop-before-preserved
 loop-before-preserved c =
