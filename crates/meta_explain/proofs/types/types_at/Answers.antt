@@ -1,4 +1,4 @@
-use Rattle.std.proofs.Common.{◌+◌, Vec, Global, ◌<◌, ◌≤◌, ◌∙◌, ℕ, sym, ap, subst, arith}
+use Rattle.std.proofs.Common.{◌+◌, Vec, Global, ◌∙◌, ℕ, sym, ap, subst, arith}
 use Rattle.std.proofs.lemmas.Bool.{false≢true}
 use Rattle.std.proofs.lemmas.Result.{IfOk-from_err}
 use Rattle.meta_inst.specs.Tables.{PassesAt}
