@@ -3,6 +3,7 @@
 #   bench/hostile.sh [CASE ..]
 # Where no more may be declared than the size, it is a quarter, a half and the size. The cases are
 #   inputs     an instruction of 30,000 inputs, each of a variable of its own, in a file, for each fault that it can show
+#   immediates an instruction of 70,000 immediates, with its names checked, and the builder's text
 #   sets       4,095 instructions of seven inputs, each of a set of its own, and no two of a set
 #   names      8,191 entries of a group whose names have one hash, and a megabyte of lines that ask for the last of them
 #   opcodes    4,095 instructions whose names have one hash
@@ -112,6 +113,13 @@ def inputs(size):
         yield fault, Declared([*types, f"format W:{slots}", f"inst i:W({','.join(f'x:{it}' for it in inputs)})"]).run("tables")
 
 
+def immediates(size):
+    inputs = ",".join(f"a{k}:u" for k in range(size))
+    declared = Declared(['kind u: imm "u8"', f"format F: {','.join(['u'] * size)}", f"inst i: F({inputs})"])
+    yield "check", Took([RUN, "check", declared.file.name], "")
+    yield "builder", declared.run("builder").less(declared.run("types"))
+
+
 def sets(size):
     """Each variable has a set of its own: ranges of lanes, of dynamic lanes, of ints and of floats, by the digits of its number."""
 
@@ -204,6 +212,7 @@ def shared(size):
 # Each case: what it times, its sizes, and what grows by names that collide or lists that overlap.
 CASES = {
     "inputs": (inputs, (7_500, 15_000, 30_000), ()),
+    "immediates": (immediates, (17_500, 35_000, 70_000), ()),
     "sets": (sets, (1_023, 2_047, 4_095), ("generate", "tables")),
     "names": (names, (2_047, 4_095, 8_191), ("generate", "tables", "query")),
     "opcodes": (opcodes, (1_023, 2_047, 4_095), ("generate", "tables")),
@@ -219,7 +228,7 @@ CASES = {
 def told(case, size, what, took, before, is_named):
     """Prints a line, and answers whether what was timed may grow so."""
     count = "" if took.instructions is None else f"{took.instructions:,}"
-    line = f"{case:8} {size:>9,} {what:15} {took.seconds:9.3f} s {count:>16} {took.memory:7.0f} MB"
+    line = f"{case:10} {size:>9,} {what:15} {took.seconds:9.3f} s {count:>16} {took.memory:7.0f} MB"
     allowed = True
     if before:
         sized, earlier = before
