@@ -7,7 +7,7 @@ ghost use Rattle.meta_program.specs.Plan.{AskOfItself, IsPlan};
 ghost use Rattle.meta_program.specs.declared.plan.Names as spec;
 ghost use Rattle.meta_program.specs.declared.plan.Names.TheVariants as spec_names;
 
-use super::tool::{Tool, are_for_version};
+use super::tool::Tool;
 use super::wrong::Wrong;
 use meta_command_line::Asked;
 use meta_types::Text;
@@ -40,6 +40,13 @@ pub fn is_rust(word: &Text) -> bool
     ensures { IsTrue result ↔ (word.now ≡ rust_word) }
 {
     word.as_bytes() == b"--rust".as_slice()
+}
+
+/// Whether the words are `tables` and `--version`.
+pub(crate) fn are_for_version(name: &Text, option: &Text) -> bool
+    ensures { IsTrue result ↔ ((name.now ≡ codes "tables") × (option.now ≡ codes "--version")) }
+{
+    name.as_bytes() == b"tables".as_slice() && option.as_bytes() == b"--version".as_slice()
 }
 
 impl<'w> Over<'w> {

@@ -11,6 +11,7 @@ ghost use Rattle.meta_program.specs.declared.tool.Tool as spec;
 ghost use Rattle.meta_program.specs.declared.tool.Lone as spec_lone;
 
 use super::laws::one_tool;
+use super::plan::are_for_version;
 use super::written::{counted, described, shown_in};
 use meta_asm::Form;
 use meta_audit::Auditor;
@@ -59,13 +60,6 @@ fn version_named(number: &[u8]) -> Option<Version>
         return Some(Version::Three);
     }
     None
-}
-
-/// Whether the words are `tables` and `--version`.
-pub(crate) fn are_for_version(name: &Text, option: &Text) -> bool
-    ensures { IsTrue result ↔ ((name.now ≡ codes "tables") × (option.now ≡ codes "--version")) }
-{
-    name.as_bytes() == b"tables".as_slice() && option.as_bytes() == b"--version".as_slice()
 }
 
 fn version_of_three(words: &[Text], name: &Text, option: &Text, number: &Text) -> Option<Version>

@@ -1,4 +1,4 @@
-ghost use Rattle.std.specs.Prelude.{◌≡◌, ◌+◌, IfOk, length, string_bytes};
+ghost use Rattle.std.specs.Prelude.{◌≡◌, IfOk, length, string_bytes};
 ghost use Rattle.meta_program.specs.TablesIn.{version_word, limits_of, unfit_line, AreShownIn, IsShownIn};
 ghost use Rattle.meta_program.specs.Counts.{entries_in, laid_entries_in, check_line, IsCheckLine};
 ghost use Rattle.meta_program.specs.Described.{undescribed_line, AreDescribed};
@@ -71,25 +71,19 @@ struct Counts {
     formats: usize,
     type_sets: usize,
     constraints: usize,
-    entries: usize,
+    entries: u128,
 }
 
-/// The sum. If it is too great for a count of things in memory, the error is `AllocError`.
-fn sum(count: usize, more: usize) -> Result<usize, AllocError>
-    ensures { IfOk result (λ n. n ≡ count + more) }
-{
-    count.checked_add(more).ok_or(AllocError)
-}
-
-fn entry_count(groups: &[SettingGroup]) -> Result<usize, AllocError>
-    ensures { IfOk result (λ n. n ≡ laid_entries_in groups.now) }
+/// How many settings and presets the groups have together. A group has fewer than 2^64 of them, and there are fewer than 2^64 groups.
+fn entry_count(groups: &[SettingGroup]) -> u128
+    ensures { result ≡ laid_entries_in groups.now }
 {
     let mut count = 0;
     for group in groups {
-        let entries = sum(group.settings().len(), group.presets().len())?;
-        count = sum(count, entries)?;
+        let entries = group.settings().len() + group.presets().len();
+        count += entries as u128;
     }
-    Ok(count)
+    count
 }
 
 impl Counts {
@@ -111,21 +105,21 @@ impl Counts {
 }
 
 #[tactic(auto, using(crate::proofs::Counted::entries_built))]
-fn counts_of(built: &Built<'_>, tables: &Tables) -> Result<Counts, AllocError>
-    ensures instructions { IfOk result (λ c. c.instructions ≡ length built.now.declared.set.instructions) }
-    ensures formats { IfOk result (λ c. c.formats ≡ length built.now.declared.set.formats) }
-    ensures type_sets { IfOk result (λ c. c.type_sets ≡ length tables.now.opcodes.type_sets) }
-    ensures constraints { IfOk result (λ c. c.constraints ≡ length tables.now.opcodes.operand_constraints) }
-    ensures entries { IfOk result (λ c. c.entries ≡ entries_in built.now.declared.groups) }
+fn counts_of(built: &Built<'_>, tables: &Tables) -> Counts
+    ensures instructions { result.instructions ≡ length built.now.declared.set.instructions }
+    ensures formats { result.formats ≡ length built.now.declared.set.formats }
+    ensures type_sets { result.type_sets ≡ length tables.now.opcodes.type_sets }
+    ensures constraints { result.constraints ≡ length tables.now.opcodes.operand_constraints }
+    ensures entries { result.entries ≡ entries_in built.now.declared.groups }
 {
     let declarations = built.declarations();
-    Ok(Counts {
+    Counts {
         instructions: declarations.instructions().len(),
         formats: declarations.formats().len(),
         type_sets: tables.type_sets().len(),
         constraints: tables.operand_constraints().len(),
-        entries: entry_count(built.groups())?,
-    })
+        entries: entry_count(built.groups()),
+    }
 }
 
 /// How much of each kind there is in what was built of declarations, as `check` writes it.
@@ -134,7 +128,7 @@ pub(crate) fn counted(alloc: Global, built: &Built<'_>) -> Result<String, AllocE
     ensures { IfOk result (λ line. IsCheckLine built.now.declared (string_bytes line)) }
 {
     let tables = tables_of(alloc, built)?;
-    let counts = counts_of(built, &tables)?;
+    let counts = counts_of(built, &tables);
     counts.line(alloc)
 }
 

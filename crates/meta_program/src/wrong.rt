@@ -10,8 +10,8 @@ ghost use Rattle.meta_program.specs.Wrong.{BeginWithAsm, IsFileMissing, IsWrong,
 ghost use Rattle.meta_program.specs.Wrong.{SaysFileMissing, SaysTooMany, Says, IsWrongLine};
 ghost use Rattle.meta_program.specs.declared.wrong.Wrong as spec;
 
-use super::plan::{Over, is_check, is_option, is_rust};
-use super::tool::{are_for_version, is_asm};
+use super::plan::{Over, are_for_version, is_check, is_option, is_rust};
+use super::tool::is_asm;
 use meta_command_line::{CommandForm, usage_line};
 use meta_types::Text;
 use std::alloc::{AllocError, Global};
