@@ -1,0 +1,51 @@
+use Rattle.std.proofs.Common.{◌+◌, sym, ◌∙◌, subst, arith}
+use Rattle.std.proofs.lemmas.Bool.{false≢true}
+use Rattle.std.proofs.lemmas.Result.{IfOk-weaker}
+use Rattle.meta_inst.specs.Tables.{PassesAt}
+use Rattle.meta_gen.specs.Constraint.{entry_of}
+use Rattle.meta_explain.specs.Listed.{AreListed, IsLess}
+use Rattle.meta_explain.specs.Parts.{numbers_of}
+use Rattle.meta_explain.specs.Operands.{MayBe}
+use Rattle.meta_explain.proofs.Choosing.{is_opcode}
+use Rattle.meta_explain.proofs.Listing.{listed_none, listed_same}
+use Rattle.meta_explain.proofs.Combining.{may_pass, passing_may, some_first, some_second}
+use Rattle.meta_explain.proofs.Typed.{fitting_types}
+use Rattle.meta_explain.proofs.operands.operand_types.Goals as goal
+
+pub returns-then-not-accepts_some : goal.returns-then-not-accepts_some
+returns-then-not-accepts_some c =
+    let P = MayBe c.args.tables.now c.args.opcode c.args.controls c.args.operand in
+    subst (AreListed IsLess P) (sym c.new.ensures.items) (listed_none IsLess P
+    (λ n m. false≢true (sym c.if-not-accepts_some.true ∙ c.accepts_some.ensures.1
+    (record { results = m.results; values = m.values; accepts = m.accepts }))))
+
+pub returns-in_default : goal.returns-in_default
+returns-in_default c =
+    let P = MayBe c.args.tables.now c.args.opcode c.args.controls c.args.operand in
+    subst (AreListed IsLess P) (sym c.new-in_default.ensures.items) (listed_none IsLess P
+    (λ n m. false≢true (c.in_default.ensures.opcode.1
+    (is_opcode c.args.tables.now.entries c.args.opcode m.accepts.entry m.accepts.is_opcode))))
+
+pub types_at-requires : goal.types_at-requires
+types_at-requires c =
+    let some = c.accepts_some.ensures.0 c.if-not-accepts_some.false in
+    fitting_types c.args.tables.now (entry_of c.in-Some.entry) c.args.controls c.opcode_count-count.ensures.well_formed
+    (some_first c.args.tables.now c.args.opcode c.args.controls (entry_of c.in-Some.entry) c.in-Some.ensures.entry some)
+    (some_second c.args.tables.now c.args.opcode c.args.controls (entry_of c.in-Some.entry) c.in-Some.ensures.entry some)
+
+pub returns : goal.returns
+returns c =
+    let t = c.args.tables.now in
+    let e = entry_of c.in-Some.entry in
+    let at = c.in-Some.ensures.entry in
+    let some = c.accepts_some.ensures.0 c.if-not-accepts_some.false in
+    let k = c.args.operand in
+    let results = c.result_count.ensures.count in
+    let values = c.value_count.ensures.count in
+    let inside = c.if-operand-result_count.false in
+    let P = PassesAt t (numbers_of c.args.controls) (e.constraint_offset + k) in
+    let Q = MayBe t c.args.opcode c.args.controls k in
+    IfOk-weaker c.types_at.result _ _ (λ v h. listed_same IsLess P Q v.items
+    (λ n p. passing_may t c.args.opcode c.args.controls e at some.results some.values some.accepts k n (omega arith) p)
+    (λ n m. may_pass t c.args.opcode c.args.controls e at k n m) h)
+    c.types_at.ensures
