@@ -4,7 +4,7 @@
 use meta_asm::asm;
 use meta_command_line::{CommandForm, Manual, Program, start};
 use meta_run::Ending;
-use meta_shared_ops::define;
+use meta_shared::define;
 use meta_text::{Sink, Source};
 use meta_types::Text;
 use std::alloc::Global;

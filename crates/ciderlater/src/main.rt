@@ -10,7 +10,7 @@ use meta_program::{
     wrong_line,
 };
 use meta_run::{Ending, run_answerer};
-use meta_shared_ops::define;
+use meta_shared::define;
 use meta_text::{StdSink, StdSource};
 use meta_types::Text;
 use std::alloc::AllocError;

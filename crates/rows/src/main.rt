@@ -12,7 +12,7 @@ mod patched;
 mod session;
 mod unfailing;
 
-use meta_shared_ops::define;
+use meta_shared::define;
 use session::Session;
 use std::io::{self, Write};
 

@@ -3,7 +3,7 @@
 
 use meta_command_line::{Manual, Program, start};
 use meta_run::Ending;
-use meta_shared_ops::define;
+use meta_shared::define;
 use meta_text::{Sink, Source};
 use meta_types::Text;
 use meta_verify::verify;

@@ -1,0 +1,12 @@
+pub mod Kinds
+pub mod KindRows
+pub mod Formats
+pub mod Roots
+pub mod RootRows
+pub mod Words
+pub mod Rows
+pub mod CoreNames
+pub mod CoreFormats
+pub mod Settings
+pub mod OpsNames
+pub mod OpsFormats

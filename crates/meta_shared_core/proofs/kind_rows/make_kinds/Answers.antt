@@ -1,8 +1,0 @@
-use Rattle.std.proofs.lemmas.Result.{IfOk-from_err}
-use Rattle.meta_shared_core.proofs.kind_rows.make_kinds.Goals as goal
-
-pub returns-in_err-make : goal.returns-in_err-make
-returns-in_err-make c = IfOk-from_err c.from_residual.result _ c.from_residual.ensures.0
-
-pub returns-in_err-push : goal.returns-in_err-push
-returns-in_err-push c = IfOk-from_err c.from_residual-in_err-push.result _ c.from_residual-in_err-push.ensures.0

@@ -1,7 +1,0 @@
-use Rattle.std.proofs.Common.{◌≡◌, drop}
-use Rattle.meta_shared_core.specs.Kinds.{with_values, pairs_as_values}
-use Rattle.meta_shared_core.proofs.kind_rows.values.Given as goal
-
--- with the values that are left there are all
-abbrev pub invariant-loop-name : goal.invariant-loop-name
-invariant-loop-name l = with_values (drop l.name-index l.pairs) l.values ≡ pairs_as_values l.pairs

@@ -1,5 +1,0 @@
-use Rattle.std.proofs.Common.{rules}
-use Rattle.meta_shared_ops.proofs.tables.floats.Goals as goal
-
-pub returns : goal.returns
-returns c = search rules

@@ -1,2 +1,0 @@
-pub mod OpsNames
-pub mod OpsFormats
