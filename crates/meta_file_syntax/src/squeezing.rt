@@ -60,7 +60,7 @@ pub(crate) fn squeeze(alloc: Global, whole: Tokens) -> Result<Tokens, AllocError
     };
     for line in &lines {
         let Some(token) = rest.pop_front() else {
-            return Err(AllocError);
+            unreachable!()
         };
         keep(&mut kept, token, *line, &rest)?;
     }
