@@ -20,5 +20,6 @@ pub mod Registry
 pub mod SameSymbol
 pub mod Staying
 pub mod Steps
+pub mod TextParts
 pub mod Told
 pub mod Utf8

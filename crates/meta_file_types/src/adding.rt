@@ -1,10 +1,10 @@
-ghost use Rattle.std.specs.Prelude.{◌≡◌, ◌∷◌, ◌++◌, ◌<◌, ◌==◌, ◌^◌, ◌-◌, not, [], length, OnOk, IfOk, Ok, Err, None, Some};
+ghost use Rattle.std.specs.Prelude.{◌≡◌, ◌∷◌, ◌++◌, ◌<◌, ◌==◌, ◌^◌, ◌-◌, not, [], length, OnOk, IfOk, Ok, Err, None, Some, true};
 ghost use Rattle.meta_file_types.specs.declared.refused.Reason.{Reason as spec_Reason};
 ghost use Rattle.meta_file_types.specs.declared.refused.ItemError.TheVariants.{Wrong};
 ghost use Rattle.meta_file_types.specs.Words.{wrong_word, type_named, set_like, set_of, entry_of};
 ghost use Rattle.meta_file_types.specs.Said.{Said, mentioning, after_set, after_type, after_sort, root_with, root_of, alias_of, kind_of};
 ghost use Rattle.meta_file_types.specs.Said.{with_root, with_alias, with_kind, after, wrong_with};
-ghost use Rattle.meta_file_types.specs.Texts.{field_or};
+ghost use Rattle.meta_file_types.specs.Texts.{field_or, type_texts, kind_texts, are_texts};
 ghost use Rattle.meta_file_syntax.specs.Named.{doc_text};
 ghost use Rattle.meta_operands.specs.Kind.{doc_of_kind};
 ghost use Rattle.meta_typevar.specs.Registry.{root_content};
@@ -17,7 +17,7 @@ use super::refused::{ItemError, Reason};
 use super::sets::{set_of_parts, wrong_parts};
 use super::spelled::Spelled;
 use super::texts::{
-    doc_text, field_or, is_text_alias, is_text_kind, is_text_type, shown_or, text_in,
+    doc_from, field_or, is_text_alias, is_text_kind, is_text_type, shown_or, text_from,
 };
 use super::types::Types;
 use super::words::{Meaning, Word};
@@ -90,6 +90,7 @@ impl Types {
         ghost said: { Said }
         requires held { Holds self.old said }
         requires new { entry_of said.words item.now.word ≡ None }
+        requires texts { are_texts (type_texts item.now) ≡ true }
         ensures holds { OnOk result (Holds self.new (with_root said item.now.word place (Ok (root_with item.now set)))) }
         ensures extends { OnOk result (Extends (registered self.old said)
             (registered self.new (with_root said item.now.word place (Ok (root_with item.now set))))) }
@@ -223,34 +224,38 @@ fn has_docs(docs: &Docs) -> bool
     !docs.as_slice().is_empty()
 }
 
+#[tactic(auto, using(crate::proofs::TextParts::type_shown, crate::proofs::TextParts::type_docs))]
 fn new_root(
     alloc: Global,
     vars: &mut TypeVars,
     item: &TypeItem,
     set: TypeSet,
 ) -> Result<TypeVar, AllocError>
-    requires { length vars.old < 2 ^ 32 - 1 }
+    requires room { length vars.old < 2 ^ 32 - 1 }
+    requires texts { are_texts (type_texts item.now) ≡ true }
     ensures number { IfOk result (λ v. v ≡ length vars.old) }
     ensures added { let r = root_with item.now set in
         OnOk result (vars.new ≡ vars.old ++ root_content r.name r.doc r.set (length vars.old) ∷ []) }
 {
-    let name = text_in(alloc, shown_or(&item.word, &item.shown))?;
-    let doc = doc_text(alloc, &item.docs)?;
+    let name = text_from(alloc, shown_or(&item.word, &item.shown))?;
+    let doc = doc_from(alloc, &item.docs)?;
     TypeVar::new(vars, name, doc, set)
 }
 
+#[tactic(auto, using(crate::proofs::TextParts::kind_field, crate::proofs::TextParts::kind_rust, crate::proofs::TextParts::kind_docs))]
 fn kind_with(
     alloc: Global,
     item: &KindItem,
     fields: OperandKindFields,
 ) -> Result<OperandKind, AllocError>
+    requires { are_texts (kind_texts item.now) ≡ true }
     ensures field { IfOk result (λ k. k.rust_field_name ≡ field_or item.now.word item.now.field) }
     ensures rust { IfOk result (λ k. k.rust_type ≡ item.now.rust) }
     ensures fields { IfOk result (λ k. k.fields ≡ fields) }
     ensures doc { IfOk result (λ k. doc_of_kind k ≡ Some (doc_text item.now.docs)) }
 {
-    let field = text_in(alloc, field_or(&item.word, &item.field))?;
-    let rust = text_in(alloc, item.rust.as_slice())?;
-    let doc = doc_text(alloc, &item.docs)?;
+    let field = text_from(alloc, field_or(&item.word, &item.field))?;
+    let rust = text_from(alloc, item.rust.as_slice())?;
+    let doc = doc_from(alloc, &item.docs)?;
     Ok(OperandKind::new(field, rust, fields, doc))
 }

@@ -37,7 +37,8 @@ impl GivenKind {
         None
     }
 
-    pub(crate) fn kind(self, alloc: Global) -> Result<OperandKind, AllocError>
+    /// The kind of operands that it is.
+    pub fn kind(self, alloc: Global) -> Result<OperandKind, AllocError>
         ensures { (r : Registered) → IfOk result (IsKindIn r (kind_given self)) }
     {
         match self {

@@ -1,7 +1,8 @@
-ghost use Rattle.std.specs.Prelude.{◌≡◌, ◌==◌, length, IfOk, OnOk, [], is_some};
+ghost use Rattle.std.specs.Prelude.{◌≡◌, ◌==◌, length, IfOk, OnOk, [], is_some, true};
 ghost use Rattle.meta_file_types.specs.Words.{sense_of, type_of, values_from, sort_of};
 ghost use Rattle.meta_file_types.specs.Said.{Said, after_type, after_sort};
 ghost use Rattle.meta_file_types.specs.Telling.{Tells};
+ghost use Rattle.meta_file_types.specs.Texts.{value_texts, sort_texts, are_texts};
 ghost use Rattle.meta_file_types.specs.Registered.{AreFieldsIn, Extends};
 ghost use Rattle.meta_file_types.specs.Operands.{operand_of, after_operand, kind_named, kind_by_word, IsOperandKindIn, IsValueKindIn};
 ghost use Rattle.meta_file_types.specs.Operands.{AreKindsIn, kind_in};
@@ -12,7 +13,7 @@ use super::given::GivenKind;
 use super::plain::plain_type;
 use super::refused::{ItemError, Reason};
 use super::spelled::{Spelled, SpelledName};
-use super::texts::text_in;
+use super::texts::text_from;
 use super::types::Types;
 use super::words::Meaning;
 use meta_file_syntax::{EnumValue, Sort, TypeExpr};
@@ -20,13 +21,15 @@ use meta_operands::{EnumValues, OperandKind, OperandKindFields};
 use meta_types::DerivedFunc;
 use std::alloc::{AllocError, Global};
 
+#[tactic(auto, using(crate::proofs::TextParts::value_name, crate::proofs::TextParts::value_rust, crate::proofs::TextParts::values_after))]
 fn enum_values(alloc: Global, values: &[EnumValue]) -> Result<EnumValues, ItemError<'_>>
+    requires { are_texts (value_texts values.now) ≡ true }
     ensures { Tells (λ es v. v ≡ es) result (values_from [] values.now) }
 {
     let mut known = EnumValues::new(alloc);
     for value in values {
-        let name = text_in(alloc, value.name.as_slice())?;
-        let rust = text_in(alloc, value.rust.as_slice())?;
+        let name = text_from(alloc, value.name.as_slice())?;
+        let rust = text_from(alloc, value.rust.as_slice())?;
         if known.insert(name, rust)?.is_some() {
             return Err(ItemError::Wrong(Reason::ValueTwice(SpelledName::of(&value.name))));
         }
@@ -42,7 +45,8 @@ impl Types {
         sort: &'i Sort,
     ) -> Result<OperandKindFields, ItemError<'i>>
         ghost said: { Said }
-        requires { Holds self.old said }
+        requires holds { Holds self.old said }
+        requires texts { are_texts (sort_texts sort.now) ≡ true }
         ensures means { Tells (AreFieldsIn (registered self.new (after_sort said sort.now))) result (sort_of said.words sort.now) }
         ensures holds { OnOk result (Holds self.new (after_sort said sort.now)) }
         ensures extends { OnOk result (Extends (registered self.old said) (registered self.new (after_sort said sort.now))) }

@@ -1,4 +1,4 @@
-ghost use Rattle.std.specs.Prelude.{◌≡◌, IfOk};
+ghost use Rattle.std.specs.Prelude.{◌≡◌, IfOk, true};
 ghost use Rattle.std.specs.Str.{is_utf8};
 ghost use Rattle.meta_file_syntax.specs.Named.{doc_text};
 ghost use Rattle.meta_file_types.specs.Texts.{shown_or, field_or, value_texts, sort_texts, type_texts, alias_texts, kind_texts, are_texts};
@@ -91,6 +91,27 @@ pub(crate) fn is_text_kind(item: &KindItem) -> bool
         && is_text(field_or(&item.word, &item.field))
         && are_lines(item.docs.as_slice())
         && is_text_sort(&item.sort)
+}
+
+#[tactic(auto, using(crate::proofs::Utf8::is_no_text))]
+pub(crate) fn text_from(alloc: Global, bytes: &[u8]) -> Result<Text, AllocError>
+    requires { is_utf8 bytes.now ≡ true }
+    ensures { IfOk result (λ t. t ≡ bytes.now) }
+{
+    match str::from_utf8(bytes) {
+        Ok(text) => Text::new(alloc, text),
+        Err(_) => unreachable!(),
+    }
+}
+
+/// The documentation as one text.
+#[tactic(auto, using(crate::proofs::Utf8::doc_is_text))]
+pub(crate) fn doc_from(alloc: Global, docs: &Docs) -> Result<Text, AllocError>
+    requires { are_texts docs.now ≡ true }
+    ensures { IfOk result (λ t. t ≡ doc_text docs.now) }
+{
+    let text = docs.text(alloc)?;
+    text_from(alloc, &text)
 }
 
 /// The text with these bytes, which must be UTF-8: the texts of an item are tested before. For other bytes the error is the same as if

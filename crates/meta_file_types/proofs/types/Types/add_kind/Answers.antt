@@ -11,6 +11,7 @@ use Rattle.meta_file_types.specs.Held.{registered, Holds}
 use Rattle.meta_file_types.proofs.Checked.{word_free, refuses_residual}
 use Rattle.meta_file_types.proofs.Growing.{word_held}
 use Rattle.meta_file_types.proofs.Steps.{kind_word, kind_right}
+use Rattle.meta_file_types.proofs.TextParts.{kind_sort}
 use Rattle.meta_file_types.proofs.types.Types.add_kind.Goals as goal
 
 pub returns-clause-tells : goal.returns-clause-tells
@@ -73,3 +74,9 @@ returns-in_err-check_word-clause-tells g c =
     (kind_word g.said.words c.args.item.now c.in_err-check_word.field-0.0 (registered c.sort_of.new.self after) c.in_ok-fields.fields
     (sym c.is_text_kind.ensures ∙ c.if-not-is_text_kind.false) c.in_ok-fields.ensures.means
     (c.in_err-check_word.ensures after c.in_ok-fields.ensures.holds))
+
+pub sort_of-requires : goal.sort_of-requires
+sort_of-requires g c = (c.requires, kind_sort c.args.item.now (sym c.is_text_kind.ensures ∙ c.if-not-is_text_kind.false))
+
+pub kind_with-requires : goal.kind_with-requires
+kind_with-requires g c = sym c.is_text_kind.ensures ∙ c.if-not-is_text_kind.false

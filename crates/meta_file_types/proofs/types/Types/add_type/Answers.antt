@@ -49,6 +49,9 @@ returns-in_err-check_word-clause-tells g c =
 pub declare_root-requires : goal.declare_root-requires
 declare_root-requires g c = (
   c.in_ok-set.ensures.holds,
-  word_free g.said.words c.args.item.now.word
-      (c.in_ok-check_word.ensures (after_set g.said c.args.item.now.set) c.in_ok-set.ensures.holds),
+  (
+    word_free g.said.words c.args.item.now.word
+        (c.in_ok-check_word.ensures (after_set g.said c.args.item.now.set) c.in_ok-set.ensures.holds),
+    sym c.is_text_type.ensures ∙ c.if-not-is_text_type.false,
+  ),
 )

@@ -13,7 +13,7 @@ returns-clause-holds g c =
       word = c.args.item.now.word;
       place = c.args.place;
       sense = TypeSense (root_type (Declared (length g.said.roots)) (root_with c.args.item.now c.args.set).name c.args.set);
-    }) (record { place = c.args.place; meaning = meanings.Type c.in_ok-variable.variable }) c.in_ok-variable.ensures.added refl c.requires.1
+    }) (record { place = c.args.place; meaning = meanings.Type c.in_ok-variable.variable }) c.in_ok-variable.ensures.added refl c.requires.1.0
     c.in_ok-insert.ensures
     (ap (λ (n : ℕ). record { place = c.args.place; meaning = meanings.Type n }) c.in_ok-variable.ensures.number)
 
