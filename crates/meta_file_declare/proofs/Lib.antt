@@ -28,3 +28,6 @@ pub mod SameVariables
 pub mod SetItems
 pub mod SettingsAlone
 pub mod SomeDeclaration
+pub mod TextParts
+pub mod Fitting
+pub mod Marked

@@ -1,4 +1,4 @@
-ghost use Rattle.std.specs.Prelude.{◌≡◌, ◌<◌, ◌≤◌, ◌+◌, ◌^◌, ◌++◌, ◌∷◌, [], List, ℕ, length, OnOk, OnErr, IfOk, Ok, Err, None, Some, if◌then◌else◌};
+ghost use Rattle.std.specs.Prelude.{◌≡◌, ◌<◌, ◌≤◌, ◌+◌, ◌^◌, ◌++◌, ◌∷◌, [], List, ℕ, length, OnOk, OnErr, IfOk, Ok, Err, None, Some, true, if◌then◌else◌};
 ghost use Rattle.meta_operands.specs.Format.{built_format};
 ghost use Rattle.meta_inst.specs.Marks.{no_marks};
 ghost use Rattle.meta_file_syntax.specs.Named.{name_bytes, doc_text};
@@ -9,6 +9,8 @@ ghost use Rattle.meta_file_types.specs.Held as held;
 ghost use Rattle.meta_file_types.specs.declared.refused.Reason.{Reason as spec_Reason};
 ghost use Rattle.meta_file_types.specs.declared.refused.ItemError.TheVariants.{Wrong};
 ghost use Rattle.meta_file_types.specs.Telling.{Tells};
+ghost use Rattle.meta_file_types.specs.Texts.{are_texts};
+ghost use Rattle.meta_file_declare.specs.InstTexts.{format_texts, inst_texts};
 ghost use Rattle.meta_file_declare.specs.Formats.{slots_of, format_with, format_of};
 ghost use Rattle.meta_file_declare.specs.Insts.{inst_in, inst_of};
 ghost use Rattle.meta_file_declare.specs.Mentioned.{after_inst};
@@ -20,35 +22,39 @@ use super::formats::{designating, marked_in, with_slots};
 use super::insts::{FormatWord, Insts};
 use super::marks::{marks_in, second_in, with_marks, with_second};
 use super::operands::{Side, operands_in};
-use super::texts::{is_text_format, is_text_inst};
+use super::texts::{doc_from, is_text_format, is_text_inst, text_from};
 use meta_file_syntax::{FormatItem, InstItem, Item};
-use meta_file_types::{ItemError, Reason, Spelled, Types, doc_text, shown_or, text_in};
+use meta_file_types::{ItemError, Reason, Spelled, Types, shown_or};
 use meta_inst::{AllInstructions, InstructionBuilder, InstructionGroupBuilder};
 use meta_operands::{FormatId, FormatTable, InstructionFormatBuilder};
 use std::alloc::{AllocError, Global};
 
+#[tactic(auto, using(crate::proofs::TextParts::format_shown))]
 fn format_of<'i>(
     alloc: Global,
     types: &Types,
     item: &'i FormatItem,
 ) -> Result<InstructionFormatBuilder, ItemError<'i>>
     ghost said: { Said }
-    requires { held.Holds types.now said }
+    requires holds { held.Holds types.now said }
+    requires texts { are_texts (format_texts item.now) ≡ true }
     ensures { Tells (λ slots b. IsFormatIn (held.registered types.now said) (format_with item.now slots) (built_format b)) result
         (slots_of said.words item.now.slots) }
 {
-    let name = text_in(alloc, shown_or(&item.word, &item.shown))?;
+    let name = text_from(alloc, shown_or(&item.word, &item.shown))?;
     let slots = item.slots.as_slice();
     let builder = with_slots(alloc, types, name, slots)?;
-    Ok(designating(builder, marked_in(slots))?)
+    Ok(designating(builder, marked_in(slots)))
 }
 
 /// The instruction of an item, without operands and marks. It has no format yet that is looked at.
+#[tactic(auto, using(crate::proofs::TextParts::inst_name, crate::proofs::TextParts::inst_docs))]
 fn without_operands(
     alloc: Global,
     format: FormatId,
     item: &InstItem,
 ) -> Result<InstructionBuilder, AllocError>
+    requires { are_texts (inst_texts item.now) ≡ true }
     ensures { IfOk result (λ b. b ≡ record {
       name = name_bytes item.now.name;
       doc = doc_text item.now.docs;
@@ -59,11 +65,12 @@ fn without_operands(
       second = None;
     }) }
 {
-    let name = text_in(alloc, item.name.as_slice())?;
-    let doc = doc_text(alloc, &item.docs)?;
+    let name = text_from(alloc, item.name.as_slice())?;
+    let doc = doc_from(alloc, &item.docs)?;
     Ok(InstructionBuilder::new(alloc, name, doc, format))
 }
 
+#[tactic(auto, using(crate::proofs::TextParts::side_texts))]
 fn inst_of<'i>(
     alloc: Global,
     types: &mut Types,
@@ -71,7 +78,8 @@ fn inst_of<'i>(
     item: &'i InstItem,
 ) -> Result<InstructionBuilder, ItemError<'i>>
     ghost said: { Said }
-    requires { held.Holds types.old said }
+    requires holds { held.Holds types.old said }
+    requires texts { are_texts (inst_texts item.now) ≡ true }
     ensures means { Tells (IsBuilderIn (held.registered types.new (after_inst said item.now))) result (inst_in said.words format item.now) }
     ensures holds { OnOk result (held.Holds types.new (after_inst said item.now)) }
     ensures extends { OnOk result (Extends (held.registered types.old said) (held.registered types.new (after_inst said item.now))) }

@@ -96,9 +96,9 @@ impl Declaring {
         }
     }
 
-    /// Makes declarations of what was added. The instructions must be of the types and formats, which these always are; else the error is
-    /// the same as if memory ran out.
+    /// Makes declarations of what was added.
     fn close(self) -> Result<Declarations, AllocError>
+        requires { (items : List spec_Item) × HoldsSet self.types self.insts (said items) }
         ensures vars { IfOk result (λ d. d.set.vars ≡ vars_in self.types) }
         ensures formats { IfOk result (λ d. d.set.formats ≡ formats_in self.insts) }
         ensures instructions { IfOk result (λ d. d.set.instructions ≡ insts_in self.insts) }
@@ -108,9 +108,6 @@ impl Declaring {
         groups.close()?;
         let (formats, instructions) = self.insts.into_parts();
         let vars = self.types.into_vars();
-        if !Declarations::fits(&vars, &formats, &instructions) {
-            return Err(AllocError);
-        }
         Ok(Declarations::new(vars, formats, instructions, groups.done))
     }
 }

@@ -1,4 +1,4 @@
-ghost use Rattle.std.specs.Prelude.{◌≡◌, ◌≤◌, ℕ, List, length, take, None, IfOk, OnOk, OnErr, true};
+ghost use Rattle.std.specs.Prelude.{◌≡◌, ◌<◌, ◌≤◌, ℕ, List, length, take, None, Some, IfOk, OnOk, OnErr, true};
 ghost use Rattle.std.specs.List.{list_any};
 ghost use Rattle.meta_operands.specs.Format.{HasRoom};
 ghost use Rattle.meta_file_types.specs.Said.{Said};
@@ -112,20 +112,17 @@ pub(crate) fn marked_in(slots: &[Slot]) -> Option<usize>
     None
 }
 
-/// The format with this designated value, if one is given. It must be a value of the format; else the error is the same as if memory ran
-/// out.
+/// The format with this designated value, if one is given.
 pub(crate) fn designating(
     builder: InstructionFormatBuilder,
     marked: Option<usize>,
-) -> Result<InstructionFormatBuilder, AllocError>
-    requires { builder.typevar_operand ≡ None }
-    ensures { IfOk result (λ b. b ≡ record builder { typevar_operand = marked }) }
+) -> InstructionFormatBuilder
+    requires undesignated { builder.typevar_operand ≡ None }
+    requires within { (place : ℕ) → marked ≡ Some place → place < builder.num_value_operands }
+    ensures { result ≡ record builder { typevar_operand = marked } }
 {
-    let Some(place) = marked else {
-        return Ok(builder);
-    };
-    if !builder.can_designate(place) {
-        return Err(AllocError);
+    match marked {
+        Some(place) => builder.typevar_operand(place),
+        None => builder,
     }
-    Ok(builder.typevar_operand(place))
 }

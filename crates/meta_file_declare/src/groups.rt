@@ -1,12 +1,15 @@
-ghost use Rattle.std.specs.Prelude.{◌≡◌, [], None, Some, OnOk};
+ghost use Rattle.std.specs.Prelude.{◌≡◌, [], None, Some, OnOk, true};
+ghost use Rattle.std.specs.Str.{is_utf8};
+ghost use Rattle.meta_file_types.specs.Texts.{are_texts};
+ghost use Rattle.meta_file_declare.specs.Texts.{item_texts};
 ghost use Rattle.meta_file_declare.specs.OpenGroup.{group_in, known_in, IsKeptOpen, groups_so_far, closed_by, empty_group, groups_after};
 ghost use Rattle.meta_file_declare.specs.Wrong.{misplaced, wrong_with};
 ghost use Rattle.meta_file_syntax.specs.Named.{name_bytes};
 
 use super::open_group::OpenGroup;
-use super::texts::is_text_item;
+use super::texts::{is_text_item, text_from};
 use meta_file_syntax::{Item, Name};
-use meta_file_types::{Reason, text_in};
+use meta_file_types::Reason;
 use meta_settings::SettingGroupBuilder;
 use std::alloc::{AllocError, Global};
 
@@ -39,19 +42,22 @@ impl Groups {
     }
 
     fn open_group(&mut self, alloc: Global, name: &Name) -> Result<(), AllocError>
+        requires { is_utf8 (name_bytes name.now) ≡ true }
         ensures done { OnOk result (self.new.done.items ≡ closed_by self.old.done.items (group_in self.old.current)) }
         ensures opened { OnOk result (group_in self.new.current ≡ Some (empty_group (name_bytes name.now))) }
         ensures kept { OnOk result (IsKeptOpen self.new.current) }
     {
         self.close()?;
-        let name = text_in(alloc, name.as_slice())?;
+        let name = text_from(alloc, name.as_slice())?;
         self.current = Some(OpenGroup::new(alloc, name));
         Ok(())
     }
 
     /// Adds what an item declares. Nothing may be wrong with it.
+    #[tactic(auto, using(crate::proofs::TextParts::group_name))]
     pub(crate) fn add(&mut self, alloc: Global, item: &Item) -> Result<(), AllocError>
-        requires { IsKeptOpen self.old.current }
+        requires kept { IsKeptOpen self.old.current }
+        requires texts { are_texts (item_texts item.now) ≡ true }
         ensures kept { OnOk result (IsKeptOpen self.new.current) }
         ensures added { OnOk result (groups_so_far self.new.done.items (group_in self.new.current)
             ≡ groups_after (groups_so_far self.old.done.items (group_in self.old.current)) item.now) }

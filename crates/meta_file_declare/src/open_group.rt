@@ -1,4 +1,4 @@
-ghost use Rattle.std.specs.Prelude.{◌≡◌, ◌<◌, ◌≤◌, ◌+◌, ◌^◌, ℕ, List, IfOk, OnOk, OnErr};
+ghost use Rattle.std.specs.Prelude.{◌≡◌, ◌<◌, ◌≤◌, ◌+◌, ◌^◌, ℕ, List, IfOk, OnOk, OnErr, true};
 ghost use Rattle.std.specs.List.{filter_map};
 ghost use Rattle.meta_settings.specs.GroupDeclaration.{entry_count};
 ghost use Rattle.meta_settings.specs.Declaring.{with_setting, with_preset};
@@ -6,12 +6,14 @@ ghost use Rattle.meta_file_declare.specs.FirstNumbers.{number_in, or_of};
 ghost use Rattle.meta_file_declare.specs.Named.{meant};
 ghost use Rattle.meta_file_declare.specs.Wrong.{missing_in};
 ghost use Rattle.meta_file_declare.specs.OpenGroup.{IsKept, known_of, empty_group, with_item};
-ghost use Rattle.meta_file_declare.specs.Texts.{names_in};
+ghost use Rattle.meta_file_types.specs.Texts.{are_texts};
+ghost use Rattle.meta_file_syntax.specs.declared.items.Item.TheVariants as an_item;
+ghost use Rattle.meta_file_declare.specs.Texts.{names_in, item_texts};
 ghost use Rattle.meta_file_declare.specs.Said.{bool_setting, num_setting, enum_setting, preset_of};
 
-use super::texts::{comment_text, name_texts};
+use super::texts::{comment_text, doc_from, name_texts, text_from};
 use meta_file_syntax::{BoolItem, EnumItem, Item, Name, NumItem, PresetItem};
-use meta_file_types::{SpelledName, doc_text, text_in};
+use meta_file_types::SpelledName;
 use meta_settings::{BoolSettingIndex, PresetIndex, PresetType, SettingGroupBuilder};
 use meta_types::Text;
 use std::alloc::{AllocError, Global};
@@ -107,14 +109,16 @@ impl OpenGroup {
         Err(AllocError)
     }
 
+    #[tactic(auto, using(crate::proofs::TextParts::bool_name, crate::proofs::TextParts::bool_comment, crate::proofs::TextParts::bool_docs))]
     fn add_bool(&mut self, alloc: Global, item: &BoolItem) -> Result<(), AllocError>
-        requires { IsKept self.old }
+        requires kept { IsKept self.old }
+        requires texts { are_texts (item_texts (an_item.Bool item.now)) ≡ true }
         ensures added { OnOk result (self.new.builder ≡ with_setting self.old.builder (bool_setting item.now)) }
         ensures kept { OnOk result (IsKept self.new) }
     {
         self.check_room()?;
-        let name = text_in(alloc, item.name.as_slice())?;
-        let description = doc_text(alloc, &item.docs)?;
+        let name = text_from(alloc, item.name.as_slice())?;
+        let description = doc_from(alloc, &item.docs)?;
         let comment = comment_text(alloc, &item.comment)?;
         let index = self
             .builder
@@ -123,40 +127,46 @@ impl OpenGroup {
         Ok(())
     }
 
+    #[tactic(auto, using(crate::proofs::TextParts::num_name, crate::proofs::TextParts::num_comment, crate::proofs::TextParts::num_docs))]
     fn add_num(&mut self, alloc: Global, item: &NumItem) -> Result<(), AllocError>
-        requires { IsKept self.old }
+        requires kept { IsKept self.old }
+        requires texts { are_texts (item_texts (an_item.Num item.now)) ≡ true }
         ensures added { OnOk result (self.new.builder ≡ with_setting self.old.builder (num_setting item.now)) }
         ensures kept { OnOk result (IsKept self.new) }
     {
         self.check_room()?;
-        let name = text_in(alloc, item.name.as_slice())?;
-        let description = doc_text(alloc, &item.docs)?;
+        let name = text_from(alloc, item.name.as_slice())?;
+        let description = doc_from(alloc, &item.docs)?;
         let comment = comment_text(alloc, &item.comment)?;
         self.builder
             .add_num(name, description, comment, item.default)
     }
 
+    #[tactic(auto, using(crate::proofs::TextParts::enum_name, crate::proofs::TextParts::enum_comment, crate::proofs::TextParts::enum_docs, crate::proofs::TextParts::enum_values))]
     fn add_enum(&mut self, alloc: Global, item: &EnumItem) -> Result<(), AllocError>
-        requires { IsKept self.old }
+        requires kept { IsKept self.old }
+        requires texts { are_texts (item_texts (an_item.Enum item.now)) ≡ true }
         ensures added { OnOk result (self.new.builder ≡ with_setting self.old.builder (enum_setting item.now)) }
         ensures kept { OnOk result (IsKept self.new) }
     {
         self.check_room()?;
-        let name = text_in(alloc, item.name.as_slice())?;
-        let description = doc_text(alloc, &item.docs)?;
+        let name = text_from(alloc, item.name.as_slice())?;
+        let description = doc_from(alloc, &item.docs)?;
         let comment = comment_text(alloc, &item.comment)?;
         let values = name_texts(alloc, item.values.as_slice())?;
         self.builder.add_enum(name, description, comment, values)
     }
 
+    #[tactic(auto, using(crate::proofs::TextParts::preset_name, crate::proofs::TextParts::preset_docs))]
     fn add_preset(&mut self, alloc: Global, item: &PresetItem) -> Result<(), AllocError>
-        requires { IsKept self.old }
+        requires kept { IsKept self.old }
+        requires texts { are_texts (item_texts (an_item.Preset item.now)) ≡ true }
         ensures added { OnOk result (self.new.builder ≡ with_preset self.old.builder (preset_of (known_of self.old.builder) item.now)) }
         ensures kept { OnOk result (IsKept self.new) }
     {
         self.check_room()?;
-        let name = text_in(alloc, item.name.as_slice())?;
-        let description = doc_text(alloc, &item.docs)?;
+        let name = text_from(alloc, item.name.as_slice())?;
+        let description = doc_from(alloc, &item.docs)?;
         let meant = self.all_meant(alloc, item.args.as_slice())?;
         let index = self.builder.add_preset(name, description, meant)?;
         add_first(alloc, &mut self.presets, item.name.as_slice(), index)?;
@@ -167,7 +177,8 @@ impl OpenGroup {
 impl OpenGroup {
     /// Adds the setting or the preset that an item declares. Any other item adds nothing.
     pub(crate) fn add(&mut self, alloc: Global, item: &Item) -> Result<(), AllocError>
-        requires { IsKept self.old }
+        requires kept { IsKept self.old }
+        requires texts { are_texts (item_texts item.now) ≡ true }
         ensures added { OnOk result (self.new.builder ≡ with_item self.old.builder item.now) }
         ensures kept { OnOk result (IsKept self.new) }
     {

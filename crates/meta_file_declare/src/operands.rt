@@ -1,4 +1,4 @@
-ghost use Rattle.std.specs.Prelude.{◌≡◌, ◌<◌, length, slice_get, OnOk, None, Some};
+ghost use Rattle.std.specs.Prelude.{◌≡◌, ◌<◌, length, slice_get, OnOk, None, Some, true};
 ghost use Rattle.meta_operands.specs.Operand.{own_doc};
 ghost use Rattle.meta_file_types.specs.Said.{Said};
 ghost use Rattle.meta_file_types.specs.Operands.{after_operand};
@@ -7,12 +7,14 @@ ghost use Rattle.meta_file_types.specs.Held as held;
 ghost use Rattle.meta_file_types.specs.Telling.{Tells};
 ghost use Rattle.meta_file_syntax.specs.declared.insts.Operand.{Operand as spec_Operand};
 ghost use Rattle.meta_file_declare.specs.Insts.{operands_on, operand_at, operands_of};
+ghost use Rattle.meta_file_types.specs.Texts.{are_texts};
+ghost use Rattle.meta_file_declare.specs.InstTexts.{operand_texts};
 ghost use Rattle.meta_file_declare.specs.Mentioned.{after_operands};
 ghost use Rattle.meta_file_declare.specs.Registered.{IsOperandIn, AreOperandsIn};
 
-use super::texts::text_or_none;
+use super::texts::{text_from, text_or_none};
 use meta_file_syntax::InstItem;
-use meta_file_types::{ItemError, Types, text_in};
+use meta_file_types::{ItemError, Types};
 use meta_operands::Operand;
 use meta_types::Text;
 use std::alloc::Global;
@@ -46,6 +48,7 @@ fn documented(operand: Operand, doc: Option<Text>) -> Operand
     }
 }
 
+#[tactic(auto, using(crate::proofs::TextParts::operand_name, crate::proofs::TextParts::operand_doc))]
 fn operand_in<'i>(
     alloc: Global,
     types: &mut Types,
@@ -55,6 +58,7 @@ fn operand_in<'i>(
     ghost said: { Said }
     requires holds { held.Holds types.old said }
     requires within { place < length items.now }
+    requires texts { are_texts (operand_texts items.now) ≡ true }
     ensures means { (o : spec_Operand) → slice_get items.now place ≡ Some o
         → Tells (IsOperandIn (held.registered types.new (after_operand said o.what))) result
         (operand_at said.words o) }
@@ -65,7 +69,7 @@ fn operand_in<'i>(
 {
     let item = &items[place];
     let kind = types.operand_kind(alloc, &item.what)?;
-    let name = text_in(alloc, item.name.as_slice())?;
+    let name = text_from(alloc, item.name.as_slice())?;
     let doc = text_or_none(alloc, &item.text)?;
     Ok(documented(Operand::new(name, kind), doc))
 }
@@ -77,7 +81,8 @@ pub(crate) fn operands_in<'i>(
     item: &'i InstItem,
 ) -> Result<Vec<Operand>, ItemError<'i>>
     ghost said: { Said }
-    requires { held.Holds types.old said }
+    requires holds { held.Holds types.old said }
+    requires texts { are_texts (operand_texts (operands_on side item.now)) ≡ true }
     ensures means { let operands = operands_on side item.now in
         Tells (λ ms v. AreOperandsIn (held.registered types.new (after_operands said operands)) ms v.items) result
         (operands_of said.words operands) }

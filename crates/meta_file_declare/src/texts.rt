@@ -1,13 +1,15 @@
-ghost use Rattle.std.specs.Prelude.{◌≡◌, ◌∷◌, IfOk};
-ghost use Rattle.meta_file_syntax.specs.Named.{name_bytes};
+ghost use Rattle.std.specs.Prelude.{◌≡◌, ◌∷◌, IfOk, true};
+ghost use Rattle.std.specs.Str.{is_utf8};
+ghost use Rattle.meta_file_syntax.specs.Named.{name_bytes, doc_text};
 ghost use Rattle.meta_file_types.specs.Texts.{are_texts};
 ghost use Rattle.meta_file_declare.specs.Texts.{text_of, names_in, item_texts};
 ghost use Rattle.meta_file_declare.specs.InstTexts.{text_in, format_texts, operand_texts, inst_texts};
 
 use meta_file_syntax::{Bytes, Docs, FormatItem, InstItem, Item, Name, Operand};
-use meta_file_types::{are_lines, is_text, shown_or, text_in};
+use meta_file_types::{are_lines, is_text, shown_or};
 use meta_types::Text;
 use std::alloc::{AllocError, Global};
+use std::str;
 
 fn are_names(names: &[Name]) -> bool
     ensures { result ≡ are_texts (names_in names.now) }
@@ -56,18 +58,41 @@ pub(crate) fn is_text_item(item: &Item) -> bool
     }
 }
 
-pub(crate) fn comment_text(alloc: Global, comment: &Option<Bytes>) -> Result<Text, AllocError>
-    ensures { IfOk result (λ t. t ≡ text_of comment.now) }
+#[tactic(auto, using(meta_file_types::proofs::Utf8::is_no_text))]
+pub(crate) fn text_from(alloc: Global, bytes: &[u8]) -> Result<Text, AllocError>
+    requires { is_utf8 bytes.now ≡ true }
+    ensures { IfOk result (λ t. t ≡ bytes.now) }
 {
-    text_in(alloc, bytes_or_none(comment))
+    match str::from_utf8(bytes) {
+        Ok(text) => Text::new(alloc, text),
+        Err(_) => unreachable!(),
+    }
 }
 
+#[tactic(auto, using(meta_file_types::proofs::Utf8::doc_is_text))]
+pub(crate) fn doc_from(alloc: Global, docs: &Docs) -> Result<Text, AllocError>
+    requires { are_texts docs.now ≡ true }
+    ensures { IfOk result (λ t. t ≡ doc_text docs.now) }
+{
+    let text = docs.text(alloc)?;
+    text_from(alloc, &text)
+}
+
+pub(crate) fn comment_text(alloc: Global, comment: &Option<Bytes>) -> Result<Text, AllocError>
+    requires { is_utf8 (text_of comment.now) ≡ true }
+    ensures { IfOk result (λ t. t ≡ text_of comment.now) }
+{
+    text_from(alloc, bytes_or_none(comment))
+}
+
+#[tactic(auto, using(crate::proofs::TextParts::first_name, crate::proofs::TextParts::more_names))]
 pub(crate) fn name_texts(alloc: Global, names: &[Name]) -> Result<Vec<Text>, AllocError>
+    requires { are_texts (names_in names.now) ≡ true }
     ensures { IfOk result (λ v. v.items ≡ names_in names.now) }
 {
     let mut texts = Vec::new(alloc);
     for name in names {
-        texts.push(text_in(alloc, name.as_slice())?)?;
+        texts.push(text_from(alloc, name.as_slice())?)?;
     }
     Ok(texts)
 }
@@ -107,13 +132,13 @@ pub(crate) fn is_text_inst(item: &InstItem) -> bool
         && are_operands(item.outputs.as_slice())
 }
 
-/// The text with these bytes, if there are any. They must be UTF-8: the texts of an item are tested before. For other bytes the error is
-/// the same as if memory ran out.
+#[tactic(auto, using(crate::proofs::TextParts::text_there))]
 pub(crate) fn text_or_none(alloc: Global, text: &Option<Bytes>) -> Result<Option<Text>, AllocError>
+    requires { are_texts (text_in text.now) ≡ true }
     ensures { IfOk result (λ t. t ≡ text.now) }
 {
     match text {
-        Some(text) => Ok(Some(text_in(alloc, text.as_slice())?)),
+        Some(text) => Ok(Some(text_from(alloc, text.as_slice())?)),
         None => Ok(None),
     }
 }

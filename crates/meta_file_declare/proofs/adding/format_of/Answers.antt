@@ -5,6 +5,7 @@ use Rattle.meta_file_types.specs.Held.{registered}
 use Rattle.meta_file_types.specs.Telling.{Fails}
 use Rattle.meta_file_declare.specs.Formats.{slots_of, marked_from}
 use Rattle.meta_file_declare.proofs.Items.{designating_at, format_made}
+use Rattle.meta_file_declare.proofs.Marked.{marked_within}
 use Rattle.meta_file_declare.proofs.adding.format_of.Goals as goal
 
 pub returns-in_err-builder : goal.returns-in_err-builder
@@ -18,8 +19,15 @@ returns g c = record {
   meaning = c.in_ok-builder.ensures.slots.meaning;
   is = ap (slots_of g.said.words) (sym c.as_slice-slots.ensures) ∙ c.in_ok-builder.ensures.slots.is;
   by = format_made (registered c.args.types.now g.said) c.args.item.now c.in_ok-builder.ensures.slots.meaning c.in_ok-builder.builder
-      c.in_ok-designating.field-0 c.in_ok-builder.ensures.slots.by
+      c.designating.result c.in_ok-builder.ensures.slots.by
       (c.in_ok-builder.ensures.name ∙ (c.in_ok-name.ensures ∙ c.shown_or.ensures))
-      (c.in_ok-designating.ensures
+      (c.designating.ensures
       ∙ ap (designating_at c.in_ok-builder.builder) (c.marked_in.ensures ∙ ap (marked_from 0) c.as_slice-slots.ensures));
+}
+
+pub designating-requires : goal.designating-requires
+designating-requires g c = record {
+  undesignated = c.in_ok-builder.ensures.designated;
+  within = λ place at. marked_within g.said.words c.as_slice-slots.result.now c.in_ok-builder.ensures.slots.meaning _ place
+      c.in_ok-builder.ensures.slots.is c.in_ok-builder.ensures.slots.by.values (sym c.marked_in.ensures ∙ at);
 }

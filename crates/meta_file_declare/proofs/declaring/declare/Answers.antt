@@ -1,4 +1,4 @@
-use Rattle.std.proofs.Common.{◌≡◌, ℕ, None, below_more}
+use Rattle.std.proofs.Common.{◌≡◌, ℕ, None, below_more, take}
 use Rattle.meta_lists.proofs.Places.{get_there}
 use Rattle.meta_file_declare.specs.OpenGroup.{group_in, groups_so_far}
 use Rattle.meta_file_declare.specs.AllItems.{wrong_in}
@@ -28,3 +28,6 @@ returns-clause-said c =
     declares_all c.args.items.now c.loop-place.place c.loop-place.declaring.types c.loop-place.declaring.insts
     c.loop-place.declaring.groups.done.items (group_in c.loop-place.declaring.groups.current) c.in_ok-close.field-0 c.loop-place-test.false
     so_far.right so_far.set so_far.groups closed.vars closed.formats closed.instructions closed.groups
+
+pub close-requires : goal.close-requires
+close-requires c = (take c.loop-place.place c.args.items.now, c.loop-place.invariant.set)

@@ -17,7 +17,7 @@ use Rattle.meta_file_declare.proofs.operands.operands_in.Goals as goal
 
 pub loop-place-init : goal.loop-place-init
 loop-place-init g c = record {
-  holds = c.requires;
+  holds = c.requires.0;
   extends = extends_same (registered c.args.types.now g.said);
   so_far = rw c.new-operands.ensures.items (begun (λ k o. operand_at g.said.words o) c.operands-items.result.now _ tt);
 }

@@ -45,3 +45,6 @@ returns g c =
           m.by c.in_ok-declare_format.ensures.formats
           c.in_ok-declare_format.ensures.words c.in_ok-declare_format.ensures.insts;
     }
+
+pub format_of-requires : goal.format_of-requires
+format_of-requires g c = (c.requires.0, sym c.if-not-is_text_format.ensures)

@@ -38,3 +38,6 @@ returns-clause-means g c =
       by = inst_more _ c.args.self.now _ g.above.insts m.meaning c.in_ok-builder.builder
           (holds_stay _ _ c.args.self.now g.above.insts c.in_ok-builder.ensures.extends c.requires.1) m.by refl refl c.in_ok-push.ensures;
     }
+
+pub inst_of-requires : goal.inst_of-requires
+inst_of-requires g c = (c.requires.0, sym c.if-not-is_text_inst.ensures)

@@ -20,8 +20,8 @@ returns-clause-kept c =
     let name = c.in_ok-name.ensures in cc in
     record {
       booleans = booleans_with_bool old.builder c.add_bool.new.self old.booleans c.add_first.new.numbers c.in_ok-index.index s refl
-          c.in_ok-index.ensures.added c.in_ok-index.ensures.number c.requires.booleans
+          c.in_ok-index.ensures.added c.in_ok-index.ensures.number c.requires.kept.booleans
           (subst (λ (a : List ℕ). (q : List ℕ) → number_in c.add_first.new.numbers q
           ≡ or_of (number_in old.booleans q) q a c.in_ok-index.index) same c.in_ok-add_first.ensures);
-      presets = presets_with_setting old.builder c.add_bool.new.self old.presets s c.in_ok-index.ensures.added c.requires.presets;
+      presets = presets_with_setting old.builder c.add_bool.new.self old.presets s c.in_ok-index.ensures.added c.requires.kept.presets;
     }

@@ -17,9 +17,9 @@ returns-clause-kept c =
     let other = c.as_slice-3.ensures in
     let name = c.in_ok-name.ensures in cc in
     record {
-      booleans = booleans_with_preset old.builder c.add_preset.new.self old.booleans p c.in_ok-index.ensures.added c.requires.booleans;
+      booleans = booleans_with_preset old.builder c.add_preset.new.self old.booleans p c.in_ok-index.ensures.added c.requires.kept.booleans;
       presets = presets_with_preset old.builder c.add_preset.new.self old.presets c.add_first.new.numbers c.in_ok-index.index p
-          c.in_ok-index.ensures.added c.in_ok-index.ensures.number c.requires.presets
+          c.in_ok-index.ensures.added c.in_ok-index.ensures.number c.requires.kept.presets
           (subst (λ (a : List ℕ). (q : List ℕ) → number_in c.add_first.new.numbers q
           ≡ or_of (number_in old.presets q) q a c.in_ok-index.index) same c.in_ok-add_first.ensures);
     }
