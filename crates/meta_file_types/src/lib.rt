@@ -21,5 +21,5 @@ pub use laws::{a_plain_word_means_one_type, what_is_meant_stays};
 pub use plain::{PlainRoot, add_plain_root};
 pub use refused::{ItemError, Reason};
 pub use spelled::{Spelled, SpelledName};
-pub use texts::{are_lines, doc_text, is_text, shown_or, text_in};
+pub use texts::{are_lines, is_text, shown_or};
 pub use types::Types;

@@ -113,22 +113,3 @@ pub(crate) fn doc_from(alloc: Global, docs: &Docs) -> Result<Text, AllocError>
     let text = docs.text(alloc)?;
     text_from(alloc, &text)
 }
-
-/// The text with these bytes, which must be UTF-8: the texts of an item are tested before. For other bytes the error is the same as if
-/// memory ran out.
-pub fn text_in(alloc: Global, bytes: &[u8]) -> Result<Text, AllocError>
-    ensures { IfOk result (λ t. t ≡ bytes.now) }
-{
-    match str::from_utf8(bytes) {
-        Ok(text) => Text::new(alloc, text),
-        Err(_) => Err(AllocError),
-    }
-}
-
-/// The documentation as one text.
-pub fn doc_text(alloc: Global, docs: &Docs) -> Result<Text, AllocError>
-    ensures { IfOk result (λ t. t ≡ doc_text docs.now) }
-{
-    let text = docs.text(alloc)?;
-    text_in(alloc, &text)
-}
