@@ -1,0 +1,11 @@
+mod Tests
+mod Runs
+mod Closings
+mod CommentLaws
+mod Marks
+mod CharacterLaws
+mod Beginnings
+mod Found
+mod Flaws
+mod Reading
+mod GapLaws

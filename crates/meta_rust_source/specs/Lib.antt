@@ -1,0 +1,9 @@
+pub mod Bytes
+pub mod Prefixes
+pub mod Places
+pub mod Comments
+pub mod Spelling
+pub mod Lexemes
+pub mod Scanning
+pub mod Tokens
+pub mod Gaps
