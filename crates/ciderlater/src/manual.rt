@@ -4,9 +4,10 @@ use meta_program::COMMANDS;
 const HELP: &str = "\
 Answers by the declarations of an instruction set: those of Cranelift's shared instructions and settings, or those of a file.
 
-Usage: ciderlater [-d FILE] COMMAND    what the command answers
-       ciderlater check [--rust] FILE  ok and how much is declared, or what is wrong first, with its line;
-                                       the lines with names that rustc refuses are told, and with --rust refused
+Usage: ciderlater [-d FILE] COMMAND         what the command answers
+       ciderlater check [--rust] [--] FILE  ok and how much is declared, or what is wrong first, with its line;
+                                            the lines with names that rustc refuses are told, and with --rust refused;
+                                            FILE is standard input if it is -, and may be any word after --
 
 Commands:
   tables          the tables as text
@@ -17,12 +18,17 @@ Commands:
   instructions    the formats, opcodes and data of instructions as Rust source
   builder         the builder of instructions as Rust source
   query           an answer to each line of standard input
+  explain         the answers of query, and why types are refused;
+                  and which types an instruction takes, which instructions take types, and which instructions there are
   recheck         same, different or refused, as what the text of tables in standard input reads as;
                   then the answers of those tables to the lines after the line `// Queries.`
   synth N         a line on the tables of the declarations that are made from a number
   verify          ok, or which line of the list in standard input is the first wrong one, and why
+  verify --why    the same, and of a refused line which part doesn't fit, what it has, and what it has to be
   asm short       the list in standard input with the types left out that the others tell
   asm explicit    such a list with all types
+  asm short --why, asm explicit --why
+                  the same; a wrong line is told as verify --why tells it
   flags           the settings, set and told by name in standard input
   audit           whether the tables in standard input mean what is declared
   check           ok, and how many instructions, formats, type sets, constraints, and settings and presets there are
@@ -33,7 +39,7 @@ A file declares an instruction set: `type Int: ints 8..64`, `kind number: imm \"
 `enum NAME(VALUE, VALUE)` and `preset NAME(NAME, NAME)`. Lines that begin with `///` document what stands below them.
 
 Options:
-  -d, --declarations FILE  the declarations of this file, in place of the shared ones; before the command
+  -d, --declarations FILE  the declarations of this file, in place of the shared ones; before the command; also -d=FILE
   -h, --help               prints this
   -V, --version            prints the version
 

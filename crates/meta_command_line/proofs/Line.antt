@@ -3,8 +3,8 @@ use Rattle.std.proofs.Common.{◌≡◌, ℕ, suc, ◌<◌, ◌≤◌, ◌⊎◌
 use Rattle.std.proofs.Common.{flat_map, refl, sym, subst, arith}
 use Rattle.std.specs.Char.Escape.{escape_ascii}
 use Rattle.std.proofs.lemmas.Bool.{cases_lt}
-use Rattle.meta_command_line.specs.Usage.{IsPlain, IsShown, IsShownAt, misuse_text, misuse_place, TellsWrong, command_after_comma}
-use Rattle.meta_command_line.specs.Usage.{commands_text, ArePlainlyNamed}
+use Rattle.meta_command_line.specs.Usage.{IsPlain, escaped, IsShown, IsShownAt, misuse_text, misuse_place, TellsWrong, command_after_comma}
+use Rattle.meta_command_line.specs.Usage.{commands_text, commands_told, ArePlainlyNamed}
 use Rattle.meta_command_line.specs.declared.manual.CommandForm.{CommandForm}
 use Rattle.meta_command_line.specs.declared.misuse.Misuse.{Misuse}
 use Rattle.meta_command_line.specs.declared.misuse.Misuse.TheVariants.{NoWord, NoCommand, NoNumber, WordTooMany, NumberMissing}
@@ -24,14 +24,19 @@ plain_or_not (x ∷ xs) = ⊎_elim
     (cases_lt x 127))
     (cases_lt x 32)
 
+-- a text with escapes is plain
+pub escaped_plain : (word : List ℕ) {shown : List ℕ} → shown ≡ escaped word → IsPlain shown
+escaped_plain word is =
+    subst IsPlain (sym is)
+    (plain_append (codes "\"") (flat_map escape_ascii word ++ codes "\"") (plain_from (codes "\"") refl)
+    (plain_append (flat_map escape_ascii word) (codes "\"") (plain_flat_map escape_ascii word (λ k b at. escape_plain b))
+    (plain_from (codes "\"") refl)))
+
 shown_plain : (word shown : List ℕ) → IsShown word shown → IsPlain shown
 shown_plain word shown h = ⊎_elim
     (λ plain. subst IsPlain (sym (h.plain plain)) (plain_append (codes "'") (word ++ codes "'") (plain_from (codes "'") refl)
     (plain_append word (codes "'") plain (plain_from (codes "'") refl))))
-    (λ not_plain. subst IsPlain (sym (h.others not_plain))
-    (plain_append (codes "\"") (flat_map escape_ascii word ++ codes "\"") (plain_from (codes "\"") refl)
-    (plain_append (flat_map escape_ascii word) (codes "\"") (plain_flat_map escape_ascii word (λ k b at. escape_plain b))
-    (plain_from (codes "\"") refl))))
+    (λ not_plain. escaped_plain word (h.others not_plain))
     (plain_or_not word)
 
 shown_at_plain : (words : List (List ℕ)) (place : ℕ) (shown : List ℕ) → IsShownAt words place shown → IsPlain shown
@@ -66,15 +71,23 @@ commands_plain (command ∷ commands) named =
     (plain_flat_map command_after_comma commands (λ k c at. plain_append (codes ", ") c.name.now (plain_from (codes ", ") refl)
     (named (suc k) c at))))
 
+told_plain : (commands : List CommandForm) (m : Misuse) → ArePlainlyNamed commands → IsPlain (commands_told commands m)
+told_plain commands NoWord named =
+    plain_append (codes ": ") (commands_text commands) (plain_from (codes ": ") refl) (commands_plain commands named)
+told_plain commands NoCommand named =
+    plain_append (codes ": ") (commands_text commands) (plain_from (codes ": ") refl) (commands_plain commands named)
+told_plain commands (NoNumber k) named = plain_nil
+told_plain commands (WordTooMany k) named = plain_nil
+told_plain commands NumberMissing named = plain_nil
+
 -- a usage line is plain
 pub line_plain : (commands : List CommandForm) (words : List (List ℕ)) (m : Misuse) (wrong line : List ℕ) → TellsWrong words m wrong
-    → line ≡ wrong ++ (codes ": " ++ (commands_text commands ++ codes "; --help says more")) → ArePlainlyNamed commands → IsPlain line
+    → line ≡ wrong ++ (commands_told commands m ++ codes "; --help says more") → ArePlainlyNamed commands → IsPlain line
 line_plain commands words m wrong line told is named =
     subst IsPlain (sym is)
-    (plain_append wrong (codes ": " ++ (commands_text commands ++ codes "; --help says more")) (wrong_plain words m wrong told)
-    (plain_append (codes ": ") (commands_text commands ++ codes "; --help says more") (plain_from (codes ": ") refl)
-    (plain_append (commands_text commands) (codes "; --help says more") (commands_plain commands named)
-    (plain_from (codes "; --help says more") refl))))
+    (plain_append wrong (commands_told commands m ++ codes "; --help says more") (wrong_plain words m wrong told)
+    (plain_append (commands_told commands m) (codes "; --help says more") (told_plain commands m named)
+    (plain_from (codes "; --help says more") refl)))
 
 -- if there are no words, the line says just that there is no command
 pub no_command_plain : (line : List ℕ) → line ≡ codes "no command" → IsPlain line

@@ -1,5 +1,5 @@
 -- The line that names the wrong word of words that are no command.
---     IsUsageLine commands words line     the line names the wrong word, by a misuse of the words, and the commands
+--     IsUsageLine commands words line     the line names the wrong word, by a misuse of the words, and lists the commands if they name none
 use Rattle.std.specs.Prelude.{◌≡◌, ◌≤◌, ◌<◌, ℕ, List, [], ◌∷◌, ◌++◌, codes, slice_get, None, Some}
 use Rattle.std.specs.Char.Escape.{escape_ascii}
 use Rattle.std.specs.List.{flat_map}
@@ -64,14 +64,22 @@ abbrev pub commands_text : List CommandForm → List ℕ
 commands_text [] = codes "the program takes no words"
 commands_text (command ∷ commands) = codes "the commands are " ++ (command.name.now ++ flat_map command_after_comma commands)
 
+-- the list of the commands, if the words name none of them; after the name of a command the others don't matter
+abbrev pub commands_told : List CommandForm → Misuse → List ℕ
+commands_told commands NoWord = codes ": " ++ commands_text commands
+commands_told commands NoCommand = codes ": " ++ commands_text commands
+commands_told commands (NoNumber place) = []
+commands_told commands (WordTooMany place) = []
+commands_told commands NumberMissing = []
+
 -- the name of each command is plain
 abbrev pub ArePlainlyNamed : List CommandForm → Type 0
 ArePlainlyNamed commands = (k : ℕ) (command : CommandForm) → slice_get commands k ≡ Some command → IsPlain command.name.now
 
--- the line names the wrong word and the commands
+-- the line names the wrong word, and the commands if the words name none of them
 pub record IsUsageLine (commands : List CommandForm) (words : List (List ℕ)) (line : List ℕ) : Type 0 where
   pub misuse : Misuse
   pub is_misuse : IsMisuse commands words misuse
   pub wrong : List ℕ
   pub is_wrong : TellsWrong words misuse wrong
-  pub is : line ≡ wrong ++ (codes ": " ++ (commands_text commands ++ codes "; --help says more"))
+  pub is : line ≡ wrong ++ (commands_told commands misuse ++ codes "; --help says more")

@@ -19,4 +19,4 @@ pub use program::{
     Program, answer_of_itself, print_help, print_version, start, tell, tell_line, tell_wrong, words,
 };
 pub use telling::about;
-pub use usage::usage_line;
+pub use usage::{escaped, usage_line};

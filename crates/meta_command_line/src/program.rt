@@ -95,7 +95,7 @@ pub fn tell(rt: &HostRuntime, manual: &Manual, ending: Ending) {
     }
 }
 
-/// Says in one line on standard error which word is wrong and which commands there are. The words are no command.
+/// Says in one line on standard error which word is wrong, and which commands there are if the first word is none. The words are no command.
 pub fn tell_wrong(rt: &HostRuntime, manual: &Manual, words: &[Text]) {
     match usage_line(rt.alloc(), manual.commands, words) {
         Ok(line) => tell_line(rt, manual, &line),
@@ -122,7 +122,7 @@ fn run<P: Program>(rt: &HostRuntime, manual: &Manual, program: &P, words: &[Text
 
 /// Runs a program as a process. `--help`, `-h`, `help` alone, `--version` and `-V` are answered from the manual, and all other words are
 /// handed to the program. Standard output has answers alone. If the ending isn't `Done`, one line on standard error says why; if the words
-/// are no command, it names the wrong word and the commands. The exit status is that of the ending.
+/// are no command, it names the wrong word. The exit status is that of the ending.
 pub fn start<P: Program>(rt: &HostRuntime, manual: &Manual, program: &P) -> ExitCode {
     let ending = match words(rt) {
         Ok(words) => run(rt, manual, program, &words),

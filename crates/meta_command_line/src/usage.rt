@@ -2,7 +2,7 @@ ghost use Rattle.std.specs.Prelude.{◌≡◌, ◌↔◌, ◌<◌, ◌≤◌, �
 ghost use Rattle.std.specs.Char.Escape.{escape_ascii};
 ghost use Rattle.meta_command_line.specs.Misuse.{AreTaken};
 ghost use Rattle.meta_command_line.specs.Usage.{IsPlain, escaped, IsShown, IsShownAt, ArePlainlyNamed, IsWrongAfter, TellsWrong};
-ghost use Rattle.meta_command_line.specs.Usage.{commands_text, IsUsageLine};
+ghost use Rattle.meta_command_line.specs.Usage.{commands_text, commands_told, IsUsageLine};
 
 use super::manual::CommandForm;
 use super::misuse::Misuse;
@@ -23,6 +23,25 @@ fn commands_text(alloc: Global, commands: &[CommandForm]) -> Result<String, Allo
         text.push_str(other.name)?;
     }
     Ok(text)
+}
+
+/// The list of the commands, if the words name none of them.
+fn commands_told(
+    alloc: Global,
+    commands: &[CommandForm],
+    misuse: Misuse,
+) -> Result<String, AllocError>
+    ensures { IfOk result (λ text. string_bytes text ≡ commands_told commands.now misuse) }
+{
+    match misuse {
+        Misuse::NoWord | Misuse::NoCommand => {
+            let commands = commands_text(alloc, commands)?;
+            format!(in alloc; ": {commands}")
+        }
+        Misuse::NoNumber(_) | Misuse::WordTooMany(_) | Misuse::NumberMissing => {
+            Ok(String::new(alloc))
+        }
+    }
 }
 
 /// Whether the byte is a letter, a digit, a mark or a space of ASCII.
@@ -53,9 +72,10 @@ fn push_escaped(shown: &mut String, byte: u8) -> Result<(), AllocError>
     Ok(())
 }
 
-/// The bytes between double quotes, each as `u8::escape_ascii` writes it.
-fn escaped(alloc: Global, bytes: &[u8]) -> Result<String, AllocError>
-    ensures { IfOk result (λ shown. string_bytes shown ≡ escaped bytes.now) }
+/// The bytes between double quotes, each as `u8::escape_ascii` writes it: `\n`, `\"`, `\x1b`, or the byte itself if it is plain ASCII.
+pub fn escaped(alloc: Global, bytes: &[u8]) -> Result<String, AllocError>
+    ensures text { IfOk result (λ shown. string_bytes shown ≡ escaped bytes.now) }
+    ensures plain { IfOk result (λ shown. IsPlain (string_bytes shown)) }
 {
     let mut shown = String::from_str(alloc, "\"")?;
     for byte in bytes {
@@ -114,9 +134,9 @@ fn wrong(alloc: Global, words: &[Text], misuse: Misuse) -> Result<String, AllocE
     }
 }
 
-/// The usage line: what is wrong with words that are none of the commands, which word is wrong, and which commands there are. It is
-/// one line, without its line feed. If the names of the commands are plain, each byte of the line is plain: no word ends the line, or
-/// reaches a terminal as anything but printable ASCII.
+/// The usage line: what is wrong with words that are none of the commands, and which word is wrong. If the words begin with the name of no
+/// command, it lists the commands. It is one line, without its line feed. If the names of the commands are plain, each byte of the line is
+/// plain: no word ends the line, or reaches a terminal as anything but printable ASCII.
 pub fn usage_line(
     alloc: Global,
     commands: &[CommandForm],
@@ -130,6 +150,6 @@ pub fn usage_line(
         return String::from_str(alloc, "no command");
     };
     let wrong = wrong(alloc, words, misuse)?;
-    let commands = commands_text(alloc, commands)?;
-    format!(in alloc; "{wrong}: {commands}; --help says more")
+    let commands = commands_told(alloc, commands, misuse)?;
+    format!(in alloc; "{wrong}{commands}; --help says more")
 }

@@ -5,13 +5,14 @@ ghost use Rattle.meta_table_text.specs.declared.version.Version as spec_version;
 ghost use Rattle.meta_program.specs.Over.{asked_of};
 ghost use Rattle.meta_program.specs.TablesIn.{version_word};
 ghost use Rattle.meta_program.specs.Tool.{AskSomething};
-ghost use Rattle.meta_program.specs.Wrong.{MissFile, CheckMore, CheckRustMore, RustMore, VersionMore, IsTooMany, NameNoVersion};
-ghost use Rattle.meta_program.specs.Wrong.{BeginWithAsm, IsFileMissing, IsWrong, IsWrongIfAny, AskWhatIsListed};
+ghost use Rattle.meta_program.specs.Wrong.{MissFile, CheckMore, CheckRustMore, CheckEndMore, CheckRustEndMore, RustMore, VersionMore};
+ghost use Rattle.meta_program.specs.Wrong.{WhyMore, IsTooMany, IsWordTooMany, NameNoVersion, BeginWithAsm, IsFileMissing, IsWrong};
+ghost use Rattle.meta_program.specs.Wrong.{IsWrongIfAny, AskWhatIsListed};
 ghost use Rattle.meta_program.specs.Wrong.{SaysFileMissing, SaysTooMany, Says, IsWrongLine};
 ghost use Rattle.meta_program.specs.declared.wrong.Wrong as spec;
 
-use super::plan::{Over, are_for_version, is_check, is_option, is_rust};
-use super::tool::is_asm;
+use super::plan::{Over, are_for_version, is_check, is_end, is_option, is_rust};
+use super::tool::{is_asm, is_verify, is_why};
 use meta_command_line::{CommandForm, usage_line};
 use meta_types::Text;
 use std::alloc::{AllocError, Global};
@@ -42,7 +43,8 @@ fn miss_file(words: &[Text]) -> bool
 {
     match words {
         [option] => is_option(option),
-        [name, rust] => is_check(name) && is_rust(rust),
+        [name, option] => is_check(name) && (is_rust(option) || is_end(option)),
+        [name, rust, end] => is_check(name) && is_rust(rust) && is_end(end),
         _ => false,
     }
 }
@@ -52,7 +54,7 @@ fn are_check_more(words: &[Text]) -> bool
     ensures { IsTrue result ↔ CheckMore words.now }
 {
     match words {
-        [name, path, _word, _after @ ..] => is_check(name) && !is_rust(path),
+        [name, path, _word, _after @ ..] => is_check(name) && !is_rust(path) && !is_end(path),
         _ => false,
     }
 }
@@ -62,7 +64,31 @@ fn are_check_rust_more(words: &[Text]) -> bool
     ensures { IsTrue result ↔ CheckRustMore words.now }
 {
     match words {
-        [name, rust, _path, _word, _after @ ..] => is_check(name) && is_rust(rust),
+        [name, rust, path, _word, _after @ ..] => {
+            is_check(name) && is_rust(rust) && !is_end(path)
+        }
+        _ => false,
+    }
+}
+
+/// Whether the words are a check of a file after `--`, and more.
+fn are_check_end_more(words: &[Text]) -> bool
+    ensures { IsTrue result ↔ CheckEndMore words.now }
+{
+    match words {
+        [name, end, _path, _word, _after @ ..] => is_check(name) && is_end(end),
+        _ => false,
+    }
+}
+
+/// Whether the words are a check that refuses names of a file after `--`, and more.
+fn are_check_rust_end_more(words: &[Text]) -> bool
+    ensures { IsTrue result ↔ CheckRustEndMore words.now }
+{
+    match words {
+        [name, rust, end, _path, _word, _after @ ..] => {
+            is_check(name) && is_rust(rust) && is_end(end)
+        }
         _ => false,
     }
 }
@@ -84,6 +110,16 @@ fn are_version_more(words: &[Text]) -> bool
         [name, option, version, _word, _after @ ..] => {
             are_for_version(name, option) && is_version(version)
         }
+        _ => false,
+    }
+}
+
+/// Whether the words are `verify --why`, and more.
+fn are_why_more(words: &[Text]) -> bool
+    ensures { IsTrue result ↔ WhyMore words.now }
+{
+    match words {
+        [name, why, _word, _after @ ..] => is_verify(name) && is_why(why),
         _ => false,
     }
 }
@@ -145,10 +181,10 @@ fn too_many(over: &Over<'_>) -> Option<usize>
             if are_check_more(words) {
                 return Some(2);
             }
-            if are_check_rust_more(words) || are_version_more(words) {
+            if are_check_rust_more(words) || are_check_end_more(words) || are_version_more(words) {
                 return Some(3);
             }
-            None
+            are_check_rust_end_more(words).then_some(4)
         }
         Over::File(_, words) => {
             if are_rust_more(words) {
@@ -174,6 +210,9 @@ impl Wrong {
             return Some(Wrong::WordTooMany(place));
         }
         let words = over.asked();
+        if are_why_more(words) {
+            return Some(Wrong::WordTooMany(2));
+        }
         if name_no_version(words) {
             return Some(Wrong::NoVersion);
         }
@@ -232,7 +271,7 @@ fn word_too_many(
 ) -> Result<String, AllocError>
     requires listed { AskWhatIsListed commands.now }
     requires words { words.now ≡ asked_of over.now }
-    requires place { IsTooMany over.now place }
+    requires place { IsWordTooMany over.now place }
     ensures plain { ArePlainlyNamed commands.now → IfOk result (λ line. IsPlain (string_bytes line)) }
     ensures line { IfOk result (λ line. SaysTooMany commands.now words.now place (string_bytes line)) }
 {
@@ -260,7 +299,10 @@ fn said(
         Some(Wrong::NoVersion) => {
             String::from_str(alloc, "the versions of 'tables' are 1, 2 and 3")
         }
-        Some(Wrong::NoForm) => String::from_str(alloc, "the forms of 'asm' are short and explicit"),
+        Some(Wrong::NoForm) => String::from_str(
+            alloc,
+            "the forms of 'asm' are short and explicit, each alone or with --why after it",
+        ),
         None => usage_line(alloc, commands, words),
     }
 }

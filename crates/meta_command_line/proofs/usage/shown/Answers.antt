@@ -18,4 +18,4 @@ returns-else-is_plain c =
       plain = λ p. absurd (no_truth (sym c.if-is_plain.false ∙ c.is_plain.ensures.1 p));
       others = λ n. e ∙ ap escaped c.as_bytes.ensures;
     })
-    c.escaped.ensures
+    c.escaped.ensures.text
