@@ -139,7 +139,7 @@ module _ (tables : TableContents) (op : ℕ) (c : ControlTypes) (e : OpcodeNumbe
 -- ---- operands of any types
 
 -- what asks for any types asks for none of them
-asked_any : (count k : ℕ) (o : Option ℕ) → slice_get (replicate count None) k ≡ Some o → o ≡ None
+pub asked_any : (count k : ℕ) (o : Option ℕ) → slice_get (replicate count None) k ≡ Some o → o ≡ None
 asked_any zero k o there = absurd (cc)
 asked_any (suc count) zero o there = sym (same_Some None o there)
 asked_any (suc count) (suc k) o there = asked_any count k o there

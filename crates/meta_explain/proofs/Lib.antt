@@ -1,11 +1,20 @@
 -- lists
-mod Listing
+pub mod Listing
 mod Adding
 -- the parts
-mod Typed
+pub mod Typed
 mod Failing
+mod Told
+-- texts
+mod Numbered
+mod LeastSets
+mod Least
+mod ItemTexts
+mod SetTexts
 mod Replacing
 -- searches
 mod Choosing
 mod Telling
 mod Combining
+-- controls one by one
+mod Serving

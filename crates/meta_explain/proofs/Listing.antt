@@ -1,10 +1,11 @@
 -- Lists that have exactly what they are to have, in order.
 use Rattle.std.proofs.Common.{◌≡◌, ◌<◌, ◌≤◌, ◌+◌, ◌⊎◌, inl, inr, ⊎_elim, ℕ, List, [], ◌∷◌, ◌++◌, length, slice_get, Some, Contains, refl}
-use Rattle.std.proofs.Common.{sym, subst, arith}
+use Rattle.std.proofs.Common.{zero, suc, All, ap, ap₂, ◌∙◌, sym, subst, arith}
 use Rattle.std.proofs.lemmas.Bool.{cases_eq}
-use Rattle.std.proofs.lemmas.Option.{slice_get_within, get_or_from_slice_get}
+use Rattle.std.proofs.lemmas.Option.{slice_get_within, slice_get-get_or, get_or_from_slice_get}
 use Rattle.std.proofs.lemmas.List.Elements.{Contains-append_left, Contains-append_right, Contains-append_cases}
-use Rattle.meta_lists.proofs.Contained.{contains_first, contains_cases, contains_none}
+use Rattle.meta_lists.proofs.Contained.{contains_first, contains_after, contains_cases, contains_none}
+use Rattle.meta_lists.proofs.Everywhere.{everywhere}
 use Rattle.meta_lists.proofs.Places.{get_cases}
 use Rattle.meta_explain.specs.Listed.{AreListed, IsLess}
 
@@ -45,6 +46,10 @@ module _ {X : Type 0} (Before : X → X → Type 0) where
     order = h.order;
   }
 
+  -- what is so of all of which P holds is so of the whole list
+  pub listed_all : (P Q : X → Type 0) (xs : List X) → ((x : X) → P x → Q x) → AreListed Before P xs → All Q xs
+  listed_all P Q xs to h = everywhere xs (λ k x at. to x ((h.contains x).0 (contained_at xs k x at)))
+
   module _ (P Q R : X → Type 0) (xs ys : List X) (h : AreListed Before P xs) (g : AreListed Before Q ys) (apart : (x y : X) → P x
       → Q y → Before x y) where
     -- an element of the first list comes before one of the second, and the elements of each are in order
@@ -67,6 +72,56 @@ module _ {X : Type 0} (Before : X → X → Type 0) where
       );
       order = λ j k x y l at there. in_order j k x y l (get_cases xs ys j x at) (get_cases xs ys k y there);
     }
+
+-- ---- one list
+
+module _ {X : Type 0} (Before : X → X → Type 0) (apart : (x y : X) → Before x y → Before y x → ⊥) where
+  -- what stands earlier comes before what stands later
+  abbrev Ordered : List X → Type 0
+  Ordered xs = (j k : ℕ) (x y : X) → j < k → slice_get xs j ≡ Some x → slice_get xs k ≡ Some y → Before x y
+
+  before_later : (x y : X) (xs : List X) → Ordered (x ∷ xs) → Contains xs y → Before x y
+  before_later x y xs h (k, l, e) = h 0 (suc k) x y (omega arith) refl (slice_get-get_or xs k y l ∙ ap (λ z. Some z) e)
+
+  ordered_rest : (x : X) (xs : List X) → Ordered (x ∷ xs) → Ordered xs
+  ordered_rest x xs h j k y z l at there = h (suc j) (suc k) y z (omega (arith, l)) at there
+
+  same_first : (x y : X) (xs ys : List X) → Ordered (x ∷ xs) → Ordered (y ∷ ys) → Contains (y ∷ ys) x → Contains (x ∷ xs) y → x ≡ y
+  same_first x y xs ys h g in_ys in_xs = ⊎_elim
+      (λ e. sym e)
+      (λ later. ⊎_elim (λ e. e) (λ after. absurd (apart x y (before_later x y xs h after) (before_later y x ys g later)))
+      (contains_cases x y xs in_xs))
+      (contains_cases y x ys in_ys)
+
+  -- a later element is also a later element of the other list
+  also_later : (x y z : X) (xs ys : List X) → Ordered (x ∷ xs) → x ≡ y → Contains xs z → Contains (y ∷ ys) z → Contains ys z
+  also_later x y z xs ys h e in_xs in_ys = ⊎_elim
+      (λ same.
+      let after : Before x x = subst (Before x) (sym (e ∙ same)) (before_later x z xs h in_xs) in
+      absurd (apart x x after after))
+      (λ c. c)
+      (contains_cases y z ys in_ys)
+
+  same_lists : (xs ys : List X) → Ordered xs → Ordered ys → ((z : X) → Contains xs z → Contains ys z)
+      → ((z : X) → Contains ys z → Contains xs z) → xs ≡ ys
+  same_lists [] [] h g to from = refl
+  same_lists [] (y ∷ ys) h g to from = absurd (contains_none y (from y (contains_first y ys)))
+  same_lists (x ∷ xs) [] h g to from = absurd (contains_none x (to x (contains_first x xs)))
+  same_lists (x ∷ xs) (y ∷ ys) h g to from =
+      let e = same_first x y xs ys h g (to x (contains_first x xs)) (from y (contains_first y ys)) in
+      let rest = same_lists xs ys (ordered_rest x xs h) (ordered_rest y ys g)
+      (λ z c. also_later x y z xs ys h e c (to z (contains_after x z xs c)))
+      (λ z c. also_later y x z ys xs g (sym e) c (from z (contains_after y z ys c))) in
+      ap₂ (λ a (zs : List X). a ∷ zs) e rest
+
+  -- there is one list of what P holds of
+  pub one_listed : (P : X → Type 0) (xs ys : List X) → AreListed Before P xs → AreListed Before P ys → xs ≡ ys
+  one_listed P xs ys h g = same_lists xs ys h.order g.order (λ z c. (g.contains z).1 ((h.contains z).0 c))
+      (λ z c. (h.contains z).1 ((g.contains z).0 c))
+
+-- of two numbers one is not both before and after the other
+pub rising_apart : (m n : ℕ) → IsLess m n → IsLess n m → ⊥
+rising_apart m n l g = omega (arith, l, g)
 
 -- ---- numbers that are looked at one after the other
 

@@ -38,7 +38,7 @@ in_range n is =
 
 -- ---- controls
 
-set_typed : (tables : TableContents) (j n : ℕ) → SetContains tables j n → IsTypeNumber n
+pub set_typed : (tables : TableContents) (j n : ℕ) → SetContains tables j n → IsTypeNumber n
 set_typed tables j n s = subst IsTypeNumber s.contains.numbered (number_is_one s.contains.type_of s.contains.contained.is_type)
 
 -- there is no control where the offset says that there is none
@@ -54,6 +54,12 @@ pub fits_some : (tables : TableContents) (offset : ℕ) (c : Option ℕ) → (of
     → (n : ℕ) × (c ≡ Some n) × SetContains tables offset n
 fits_some tables offset c differs fits = MatchBool-at_false {b = offset == no_type_set} (c ≡ None)
     ((n : ℕ) × (c ≡ Some n) × SetContains tables offset n) (ne_eqb offset no_type_set differs) fits
+
+pub some_fits : (tables : TableContents) (offset n : ℕ) → (offset ≡ no_type_set → ⊥) → SetContains tables offset n
+    → ControlNumberFits tables offset (Some n)
+some_fits tables offset n differs contains =
+    subst (λ b. MatchBool b (Some n ≡ None) ((m : ℕ) × (Some n ≡ Some m) × SetContains tables offset m))
+    (sym (ne_eqb offset no_type_set differs)) (n, refl, contains)
 
 -- what fits a control is the number of a type
 pub control_typed : (tables : TableContents) (offset : ℕ) (c : Option ℕ) (n : ℕ) → ControlNumberFits tables offset c → c ≡ Some n

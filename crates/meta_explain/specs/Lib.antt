@@ -4,3 +4,8 @@ pub mod Wanted
 pub mod Found
 pub mod Search
 pub mod Operands
+pub mod Sets
+pub mod Texts
+pub mod MaskTexts
+pub mod Options
+pub mod Serving

@@ -10,3 +10,7 @@ pub record AreListed {X : Type 0} (Before : X → X → Type 0) (P : X → Type 
 -- the numbers rise
 abbrev pub IsLess : ℕ → ℕ → Type 0
 IsLess m n = m < n
+
+-- a list of numbers that rises
+abbrev pub Rising : List ℕ → Type 0
+Rising ns = (j k m n : ℕ) → j < k → slice_get ns j ≡ Some m → slice_get ns k ≡ Some n → m < n

@@ -3,6 +3,7 @@ ghost use Rattle.meta_gen.specs.Constraint.{entry_of};
 ghost use Rattle.meta_gen.specs.Contents.{IsOpcode};
 ghost use Rattle.meta_explain.specs.Parts.{numbers_of, Accepts, PartPasses, FailsFirstBy};
 ghost use Rattle.meta_explain.specs.Search.{TypesAlonePass};
+ghost use Rattle.meta_explain.specs.Options.{TellsTypes};
 ghost use Rattle.meta_explain.specs.Wanted.{IsControlWanted, IsWanted, IsExplained};
 ghost use Rattle.meta_explain.specs.declared.part.Part.{Part};
 ghost use Rattle.meta_explain.specs.declared.part.Part.TheVariants.{Operand};
@@ -93,6 +94,7 @@ pub fn explain(
 ) -> Result<Option<Explained>, AllocError>
     ensures opcode { IfOk result (λ o. IsSome o ↔ IsOpcode tables.now opcode) }
     ensures explained { IfOk result (λ o. IfSome o (IsExplained tables.now opcode controls results.now values.now)) }
+    ensures types { IfOk result (λ o. IfSome o TellsTypes) }
     ensures accept { IfOk result (λ o. IfSome o (λ x. (x ≡ Accept) ↔ Accepts tables.now opcode controls results.now values.now)) }
 {
     let Some(entry) = tables.constraints(opcode) else {

@@ -1,12 +1,19 @@
-ghost use Rattle.std.specs.Prelude.{◌≡◌, ◌↔◌, ◌<◌, ◌+◌, ℕ, List, ◌++◌, slice_get, Some, IfSome, All};
-ghost use Rattle.meta_types.specs.TypeNumber.{IsTypeNumber};
+ghost use Rattle.std.specs.Prelude.{◌≡◌, ◌↔◌, ◌<◌, ◌+◌, ℕ, true, List, ◌++◌, slice_get, Some, IfSome, All, Contains};
+ghost use Rattle.meta_types.specs.TypeParts.{TypeParts};
+ghost use Rattle.meta_types.specs.TypeNumber.{type_with, IsTypeNumber};
+ghost use Rattle.meta_typevar.specs.TypeSetParts.{TypeSetParts, IsMember};
 ghost use Rattle.meta_inst.specs.Tables.{TableContents, ControlNumberFits, PassesAt};
 ghost use Rattle.meta_gen.specs.WellFormedOpcodes.{IsWellFormedOpcodes};
 ghost use Rattle.meta_explain.specs.Parts.{numbers_of, Accepts, order_of, FailsFirst, AreReplaced};
 ghost use Rattle.meta_explain.specs.Operands.{AcceptsSome, MayBe, HasCounts};
+ghost use Rattle.meta_explain.specs.Wanted.{IsExplained};
+ghost use Rattle.meta_explain.specs.Sets.{least_set, is_one_set};
+ghost use Rattle.meta_explain.specs.Texts.{wants_text};
 ghost use Rattle.meta_explain.specs.declared.control_types.ControlTypes.{ControlTypes};
 ghost use Rattle.meta_explain.specs.declared.part.Part.{Part};
 ghost use Rattle.meta_explain.specs.declared.part.Part.TheVariants.{Control, Second, Operand};
+ghost use Rattle.meta_explain.specs.declared.explained.Wanted.{Wanted};
+ghost use Rattle.meta_explain.specs.declared.explained.Explained.TheVariants.{Refuse};
 
 /// Where a part is the first that fails, the types aren't accepted; and at most one part is the first that fails.
 pub fn a_refusal_fails()
@@ -47,4 +54,21 @@ pub fn types_alone_pass()
     ensures operand { (tables : TableContents) (op : ℕ) (c : ControlTypes) (rs vs : List ℕ) (k n : ℕ) → IsWellFormedOpcodes tables
         → (f : FailsFirst tables op c rs vs (Operand k)) → PassesAt tables (numbers_of c) (f.entry.constraint_offset + k) n
         → IsTypeNumber n }
+{}
+
+/// Why types aren't accepted is told in one way: the part, and the text of what it has to be.
+pub fn one_explanation()
+    ensures { (tables : TableContents) (op : ℕ) (c : ControlTypes) (rs vs : List ℕ) (p q : Part) (w u : Wanted)
+        → IsExplained tables op c rs vs (Refuse p w) → IsExplained tables op c rs vs (Refuse q u)
+        → (p ≡ q) × (wants_text w ≡ wants_text u) }
+{}
+
+/// The set by which `push_set` goes is the least one: it has all the types, and each type of it is in any other set that has them. Types
+/// are exactly one set exactly if the least set has no other type.
+pub fn sets_are_the_least()
+    ensures all { (ns : List ℕ) (n : ℕ) → All IsTypeNumber ns → Contains ns n → IsMember (least_set ns) (type_with n) }
+    ensures least { (ns : List ℕ) (s : TypeSetParts) (t : TypeParts) → ((n : ℕ) → Contains ns n → IsMember s (type_with n))
+        → IsMember (least_set ns) t → IsMember s t }
+    ensures exactly { (ns : List ℕ) → All IsTypeNumber ns
+        → (is_one_set ns ≡ true ↔ ((n : ℕ) → (Contains ns n ↔ (IsTypeNumber n × IsMember (least_set ns) (type_with n))))) }
 {}

@@ -1,4 +1,5 @@
-ghost use Rattle.std.specs.Prelude.{◌≡◌, ◌↔◌, IsTrue, IfOk, OnOk};
+ghost use Rattle.std.specs.Prelude.{◌≡◌, ◌↔◌, All, IsTrue, IfOk, OnOk};
+ghost use Rattle.meta_types.specs.TypeNumber.{IsTypeNumber};
 ghost use Rattle.meta_gen.specs.WellFormedOpcodes.{IsWellFormedOpcodes};
 ghost use Rattle.meta_explain.specs.Listed.{AreListed, IsLess};
 ghost use Rattle.meta_explain.specs.Found.{Finds, IsBefore};
@@ -118,7 +119,8 @@ pub fn operand_types(
     controls: ControlTypes,
     operand: usize,
 ) -> Result<Vec<u16>, AllocError>
-    ensures { IfOk result (λ v. AreListed IsLess (MayBe tables.now opcode controls operand) v.items) }
+    ensures listed { IfOk result (λ v. AreListed IsLess (MayBe tables.now opcode controls operand) v.items) }
+    ensures types { IfOk result (λ v. All IsTypeNumber v.items) }
 {
     if !accepts_some(tables, opcode, controls) {
         return Ok(Vec::new(alloc));

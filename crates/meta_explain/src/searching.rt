@@ -100,7 +100,7 @@ fn control_at(place: u32) -> Option<u16>
 }
 
 /// The offset of the type set of a control.
-fn offset_of(entry: OpcodeConstraints, which: Which) -> u16
+pub(crate) fn offset_of(entry: OpcodeConstraints, which: Which) -> u16
     ensures { result ≡ offset_of (entry_of entry) (which_of which) }
 {
     match which {

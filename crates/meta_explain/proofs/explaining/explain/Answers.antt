@@ -1,6 +1,9 @@
 use Rattle.std.proofs.Common.{refl}
 use Rattle.std.proofs.lemmas.Result.{IfOk-from_err}
 use Rattle.meta_explain.proofs.Failing.{all_accepted, refused, types_of_operand, few_operands}
+use Rattle.meta_explain.specs.Parts.{FailsFirst}
+use Rattle.meta_explain.specs.declared.explained.Explained.TheVariants.{Refuse}
+use Rattle.meta_explain.proofs.Told.{told_types}
 use Rattle.meta_explain.proofs.explaining.explain.Goals as goal
 
 pub wanted_of-requires-clause-few : goal.wanted_of-requires-clause-few
@@ -26,6 +29,14 @@ returns-clause-explained c = (
   c.in_ok-wanted.ensures,
 )
 
+pub returns-clause-types : goal.returns-clause-types
+returns-clause-types c =
+    let t = c.args.tables.now in
+    let first : FailsFirst t c.args.opcode c.args.controls c.args.results.now c.args.values.now c.in-Some-first_failing.part =
+    record { entry = _; is_opcode = c.in-Some.ensures.entry; first = c.in-Some-first_failing.ensures.some } in
+    told_types t c.args.opcode c.args.controls c.args.results.now c.args.values.now
+    (Refuse c.in-Some-first_failing.part c.in_ok-wanted.wanted) c.opcode_count-count.ensures.well_formed (first, c.in_ok-wanted.ensures)
+
 pub returns-clause-accept : goal.returns-clause-accept
 returns-clause-accept c = (
   λ e. absurd (cc),
@@ -38,6 +49,9 @@ returns-in_err-wanted-clause-opcode c = IfOk-from_err c.from_residual.result _ c
 
 pub returns-in_err-wanted-clause-explained : goal.returns-in_err-wanted-clause-explained
 returns-in_err-wanted-clause-explained c = IfOk-from_err c.from_residual.result _ c.from_residual.ensures.0
+
+pub returns-in_err-wanted-clause-types : goal.returns-in_err-wanted-clause-types
+returns-in_err-wanted-clause-types c = IfOk-from_err c.from_residual.result _ c.from_residual.ensures.0
 
 pub returns-in_err-wanted-clause-accept : goal.returns-in_err-wanted-clause-accept
 returns-in_err-wanted-clause-accept c = IfOk-from_err c.from_residual.result _ c.from_residual.ensures.0
