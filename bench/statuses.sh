@@ -11,6 +11,7 @@ cd "$room" || exit 1
 cp "$top/examples/first.txt" "$top/examples/list.txt" "$top/examples/twelve.isa" . || exit 1
 : > empty
 mkdir folder.isa || exit 1
+cp twelve.isa ./-d && cp twelve.isa ./--rust || exit 1
 printf 'type Int: ints 8..64\n/' > wrong.isa
 sed 's/v4:i64/v4:i32/' list.txt > wrong.txt
 head -c 1048577 /dev/zero | tr '\0' '\n' > long.txt
@@ -93,7 +94,39 @@ done << 'RUNS'
 8 empty out ciderlater check none.isa
 8 empty out ciderlater -d none.isa tables
 8 empty out ciderlater -d folder.isa tables
+0 empty out ciderlater -d=twelve.isa tables
+0 empty out ciderlater --declarations=twelve.isa check
+8 empty out ciderlater -d=none.isa tables
+0 twelve.isa out ciderlater check -
+0 twelve.isa out ciderlater check --rust -
+0 twelve.isa out ciderlater -d - check
+1 wrong.isa out ciderlater check -- -
+6 long.txt out ciderlater check -
+8 . out ciderlater check -
+0 empty out ciderlater check -- -d
+0 empty out ciderlater check --rust -- --rust
+2 empty out ciderlater check --
+2 empty out ciderlater check -- -d twelve.isa
 RUNS
+# Runs a program with its words where standard input is closed, and holds its status against the first word.
+closed() {
+    wanted=$1
+    shift
+    "$folder/ciderlater" "$@" <&- > out 2> said
+    status=$?
+    count=$((count + 1))
+    [ "$status" = "$wanted" ] || differs "ciderlater $* with standard input closed ended with $status, and not with $wanted"
+}
+
+# The file of declarations doesn't stand in for standard input.
+closed 3 verify
+closed 3 -d twelve.isa verify
+closed 3 -d twelve.isa query
+closed 1 -d wrong.isa verify
+closed 8 -d none.isa verify
+closed 0 -d twelve.isa tables
+closed 0 check twelve.isa
+closed 8 check -
 # Each line is FILE and what standard error says of it.
 while read -r file why; do
     ran empty out "$folder/ciderlater" check "$file"
@@ -103,4 +136,19 @@ none.isa is missing
 folder.isa is a folder
 long.txt is longer than 1048576 bytes
 FILES
+# A path with a control character is shown with escapes.
+name=$(printf 'line\033[1m\nfeed.isa')
+ran empty out "$folder/ciderlater" check "$name"
+[ "$(cat said)" = 'ciderlater: "line\x1b[1m\nfeed.isa" is missing' ] || differs "a path that is missing is told as $(cat said)"
+cp wrong.isa "$name" || exit 1
+ran empty out "$folder/ciderlater" check "$name"
+case $(cat said) in
+'"line\x1b[1m\nfeed.isa":2: '*) ;;
+*) differs "a path that is refused is told as $(cat said)" ;;
+esac
+ran wrong.isa out "$folder/ciderlater" check -
+case $(cat said) in
+'<stdin>:2: '*) ;;
+*) differs "what is wrong with standard input is told as $(cat said)" ;;
+esac
 echo "$count runs of ciderlater and of the programs of top calls ended with the statuses that docs/COMMANDS.md has"

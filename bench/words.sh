@@ -43,5 +43,9 @@ asm-short short
 --declarations
 -d machine.isa
 -d machine.isa qurey
+-d=machine.isa
+-d=machine.isa qurey
+--declarations= qurey
+-- tables
 WORDS
 echo "$count answers of ./run without a program are the program's"

@@ -1,6 +1,9 @@
 // Answers commands over the shared declarations or those of a file.
 #![tactic(auto)]
 
+ghost use Rattle.std.specs.Prelude.{◌<ℤ◌, IfOk, pos};
+ghost use Rattle.std.specs.Fd.{file_raw_fd};
+
 mod manual;
 
 use manual::MANUAL;
@@ -15,8 +18,12 @@ use meta_text::{StdSink, StdSource};
 use meta_types::Text;
 use std::alloc::AllocError;
 use std::fs::File;
-use std::io::{self, Write};
+use std::io::{self, ErrorKind, Read, Write};
+use std::os::fd::AsRawFd;
 use std::process::ExitCode;
+
+/// The path of standard input in messages.
+const INPUT: &str = "<stdin>";
 
 /// Says a line that was made. If memory ran out for it, says what this ending is about.
 fn tell_made(rt: &HostRuntime, line: Result<String, AllocError>, instead: Ending) {
@@ -46,11 +53,11 @@ fn tell_ending(rt: &HostRuntime, tool: Tool, ending: Ending) {
     }
 }
 
-fn tell_trouble(rt: &HostRuntime, trouble: FileTrouble, path: &Text) {
+fn tell_trouble(rt: &HostRuntime, trouble: FileTrouble, path: &str) {
     tell_made(rt, trouble.line(rt.alloc(), path), Ending::OutOfMemory);
 }
 
-fn tell_file_ending(rt: &HostRuntime, tool: Tool, ending: &FileEnding, path: &Text) {
+fn tell_file_ending(rt: &HostRuntime, tool: Tool, ending: &FileEnding, path: &str) {
     if let Some(trouble) = FileTrouble::of(ending) {
         tell_trouble(rt, trouble, path);
     }
@@ -61,7 +68,7 @@ fn tell_file_ending(rt: &HostRuntime, tool: Tool, ending: &FileEnding, path: &Te
     }
 }
 
-fn tell_check(rt: &HostRuntime, checked: &Checked, path: &Text) {
+fn tell_check(rt: &HostRuntime, checked: &Checked, path: &str) {
     for message in &checked.names {
         tell_message(rt, message.as_slice());
     }
@@ -83,9 +90,27 @@ fn run_shared(rt: &HostRuntime, tool: Tool) -> Ending {
     }
 }
 
-/// Opens the file at a path to read it.
-fn opened(rt: &HostRuntime, path: &Text) -> Result<File, FileTrouble> {
-    let file = match File::open(rt, path.as_str()) {
+/// Opens the file at a path to read it. If a standard stream is closed, the system gives the file its number, and the stream would read the
+/// file. So the file then gets another number, and a read or write of the stream fails.
+fn opened_apart(rt: &HostRuntime, path: &str) -> io::Result<File>
+    ensures apart { IfOk result (λ file. pos 2 <ℤ file_raw_fd file) }
+{
+    let file = File::open(rt, path)?;
+    if file.as_raw_fd() > 2 {
+        return Ok(file);
+    }
+    let other = file.try_clone()?;
+    if other.as_raw_fd() > 2 {
+        return Ok(other);
+    }
+    Err(io::Error::from(ErrorKind::Other))
+}
+
+/// The file at a path, which isn't a folder.
+fn opened(rt: &HostRuntime, path: &str) -> Result<File, FileTrouble>
+    ensures apart { IfOk result (λ file. pos 2 <ℤ file_raw_fd file) }
+{
+    let file = match opened_apart(rt, path) {
         Ok(file) => file,
         Err(error) => return Err(FileTrouble::of_open(error.kind())),
     };
@@ -95,33 +120,25 @@ fn opened(rt: &HostRuntime, path: &Text) -> Result<File, FileTrouble> {
     }
 }
 
-fn run_over(rt: &HostRuntime, file: File, path: &Text, tool: Tool) -> FileEnding {
+fn run_over(rt: &HostRuntime, file: File, path: &str, tool: Tool) -> FileEnding {
     let mut file = StdSource::new(file);
     let mut source = StdSource::new(rt.reader());
     let mut sink = StdSink::new(io::writer(rt));
-    run_tool(
-        rt.alloc(),
-        tool,
-        path.as_bytes(),
-        &mut file,
-        &mut source,
-        &mut sink,
-    )
+    run_tool(rt.alloc(), tool, path, &mut file, &mut source, &mut sink)
 }
 
-/// Checks a file. Names that Rust refuses are reported, or the file is refused for them.
-fn check_over(rt: &HostRuntime, file: File, path: &Text, names: Names) -> Checked {
-    let mut file = StdSource::new(file);
-    let mut source = StdSource::new(rt.reader());
+/// Checks what a reader gives, and says what is told of it, with this path. Names that Rust refuses are reported, or the file is refused for
+/// them.
+fn checked<R: Read>(rt: &HostRuntime, reader: R, path: &str, names: Names) -> u8
+where
+    R: Drop,
+{
+    let mut file = StdSource::new(reader);
+    let mut source = StdSource::new(io::empty());
     let mut sink = StdSink::new(io::writer(rt));
-    check_file(
-        rt.alloc(),
-        path.as_bytes(),
-        names,
-        &mut file,
-        &mut source,
-        &mut sink,
-    )
+    let checked = check_file(rt.alloc(), path, names, &mut file, &mut source, &mut sink);
+    tell_check(rt, &checked, path);
+    checked.ending.code()
 }
 
 fn answer_shared(rt: &HostRuntime, tool: Tool) -> u8 {
@@ -131,12 +148,12 @@ fn answer_shared(rt: &HostRuntime, tool: Tool) -> u8 {
 }
 
 /// The status if the file can't be opened, after saying why.
-fn answer_unopened(rt: &HostRuntime, trouble: FileTrouble, path: &Text) -> u8 {
+fn answer_unopened(rt: &HostRuntime, trouble: FileTrouble, path: &str) -> u8 {
     tell_trouble(rt, trouble, path);
     FileEnding::FileFault.code()
 }
 
-fn answer_over(rt: &HostRuntime, path: &Text, tool: Tool) -> u8 {
+fn answer_over(rt: &HostRuntime, path: &str, tool: Tool) -> u8 {
     match opened(rt, path) {
         Ok(file) => {
             let ending = run_over(rt, file, path, tool);
@@ -147,13 +164,9 @@ fn answer_over(rt: &HostRuntime, path: &Text, tool: Tool) -> u8 {
     }
 }
 
-fn answer_check(rt: &HostRuntime, path: &Text, names: Names) -> u8 {
+fn answer_check(rt: &HostRuntime, path: &str, names: Names) -> u8 {
     match opened(rt, path) {
-        Ok(file) => {
-            let checked = check_over(rt, file, path, names);
-            tell_check(rt, &checked, path);
-            checked.ending.code()
-        }
+        Ok(file) => checked(rt, file, path, names),
         Err(trouble) => answer_unopened(rt, trouble, path),
     }
 }
@@ -166,6 +179,7 @@ fn run(rt: &HostRuntime, words: &[Text]) -> u8 {
         Plan::Shared(tool) => answer_shared(rt, tool),
         Plan::File(path, tool) => answer_over(rt, path, tool),
         Plan::Check(path, names) => answer_check(rt, path, names),
+        Plan::CheckInput(names) => checked(rt, rt.reader(), INPUT, names),
         Plan::Nothing(over, wrong) => {
             let line = wrong_line(rt.alloc(), listed_tools(), &over, wrong);
             tell_wrong(rt, line)

@@ -4,9 +4,10 @@ use meta_program::COMMANDS;
 const HELP: &str = "\
 Answers by the declarations of an instruction set: those of Cranelift's shared instructions and settings, or those of a file.
 
-Usage: ciderlater [-d FILE] COMMAND    what the command answers
-       ciderlater check [--rust] FILE  ok and how much is declared, or what is wrong first, with its line;
-                                       the lines with names that rustc refuses are told, and with --rust refused
+Usage: ciderlater [-d FILE] COMMAND         what the command answers
+       ciderlater check [--rust] [--] FILE  ok and how much is declared, or what is wrong first, with its line;
+                                            the lines with names that rustc refuses are told, and with --rust refused;
+                                            FILE is standard input if it is -, and may be any word after --
 
 Commands:
   tables          the tables as text
@@ -33,7 +34,7 @@ A file declares an instruction set: `type Int: ints 8..64`, `kind number: imm \"
 `enum NAME(VALUE, VALUE)` and `preset NAME(NAME, NAME)`. Lines that begin with `///` document what stands below them.
 
 Options:
-  -d, --declarations FILE  the declarations of this file, in place of the shared ones; before the command
+  -d, --declarations FILE  the declarations of this file, in place of the shared ones; before the command; also -d=FILE
   -h, --help               prints this
   -V, --version            prints the version
 

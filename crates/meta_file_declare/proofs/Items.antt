@@ -9,7 +9,7 @@ use Rattle.meta_inst.specs.Builder.{Builder}
 use Rattle.meta_file_syntax.specs.declared.formats.FormatItem.{FormatItem}
 use Rattle.meta_file_syntax.specs.declared.insts.InstItem.{InstItem}
 use Rattle.meta_file_syntax.specs.declared.insts.Mark.{Mark}
-use Rattle.meta_file_syntax.specs.Named.{name_bytes, doc_text}
+use Rattle.meta_file_syntax.specs.Named.{name_bytes, own_doc}
 use Rattle.meta_file_types.specs.Texts.{shown_or, are_texts}
 use Rattle.meta_file_types.specs.Words.{Entry}
 use Rattle.meta_file_types.specs.Registered.{Registered, Extends}
@@ -122,7 +122,7 @@ second_fails words format i inputs outputs e is os h =
 abbrev pub built_with : InstItem → ℕ → List Operand → List Operand → Option ℕ → List Mark → Builder
 built_with i format inputs outputs second marks = record {
   name = name_bytes i.name;
-  doc = doc_text i.docs;
+  doc = own_doc i.docs i.text;
   format = format;
   operands_in = Some inputs;
   operands_out = Some outputs;

@@ -34,21 +34,34 @@ format_shown i h = (first_text (shown_or i.word i.shown) [] (first_text i.word (
 -- ---- an instruction
 
 after_name : (i : InstItem) → are_texts (inst_texts i) ≡ true
-    → are_texts (i.docs ++ (operand_texts i.inputs ++ operand_texts i.outputs)) ≡ true
-after_name i h = (first_text (name_bytes i.name) (i.docs ++ (operand_texts i.inputs ++ operand_texts i.outputs)) h).1
+    → are_texts (i.docs ++ (text_in i.text ++ (operand_texts i.inputs ++ operand_texts i.outputs))) ≡ true
+after_name i h =
+    (first_text (name_bytes i.name) (i.docs ++ (text_in i.text ++ (operand_texts i.inputs ++ operand_texts i.outputs))) h).1
 
 pub inst_name : (i : InstItem) → are_texts (inst_texts i) ≡ true → is_utf8 (name_bytes i.name) ≡ true
-inst_name i h = (first_text (name_bytes i.name) (i.docs ++ (operand_texts i.inputs ++ operand_texts i.outputs)) h).0
+inst_name i h =
+    (first_text (name_bytes i.name) (i.docs ++ (text_in i.text ++ (operand_texts i.inputs ++ operand_texts i.outputs))) h).0
 
 pub inst_docs : (i : InstItem) → are_texts (inst_texts i) ≡ true → are_texts i.docs ≡ true
-inst_docs i h = (both_texts i.docs (operand_texts i.inputs ++ operand_texts i.outputs) (after_name i h)).0
+inst_docs i h = (both_texts i.docs (text_in i.text ++ (operand_texts i.inputs ++ operand_texts i.outputs)) (after_name i h)).0
 
-after_docs : (i : InstItem) → are_texts (inst_texts i) ≡ true → are_texts (operand_texts i.inputs ++ operand_texts i.outputs) ≡ true
-after_docs i h = (both_texts i.docs (operand_texts i.inputs ++ operand_texts i.outputs) (after_name i h)).1
+after_docs : (i : InstItem) → are_texts (inst_texts i) ≡ true
+    → are_texts (text_in i.text ++ (operand_texts i.inputs ++ operand_texts i.outputs)) ≡ true
+after_docs i h = (both_texts i.docs (text_in i.text ++ (operand_texts i.inputs ++ operand_texts i.outputs)) (after_name i h)).1
+
+pub text_there : (text : Option (List ℕ)) (t : List ℕ) → text ≡ Some t → are_texts (text_in text) ≡ true → is_utf8 t ≡ true
+text_there text t is h = (first_text t [] (ap (λ (o : Option (List ℕ)). are_texts (text_in o)) (sym is) ∙ h)).0
+
+pub inst_text : (i : InstItem) (t : List ℕ) → i.text ≡ Some t → are_texts (inst_texts i) ≡ true → is_utf8 t ≡ true
+inst_text i t is h =
+    text_there i.text t is (both_texts (text_in i.text) (operand_texts i.inputs ++ operand_texts i.outputs) (after_docs i h)).0
+
+after_text : (i : InstItem) → are_texts (inst_texts i) ≡ true → are_texts (operand_texts i.inputs ++ operand_texts i.outputs) ≡ true
+after_text i h = (both_texts (text_in i.text) (operand_texts i.inputs ++ operand_texts i.outputs) (after_docs i h)).1
 
 pub side_texts : (side : Side) (i : InstItem) → are_texts (inst_texts i) ≡ true → are_texts (operand_texts (operands_on side i)) ≡ true
-side_texts Inputs i h = (both_texts (operand_texts i.inputs) (operand_texts i.outputs) (after_docs i h)).0
-side_texts Outputs i h = (both_texts (operand_texts i.inputs) (operand_texts i.outputs) (after_docs i h)).1
+side_texts Inputs i h = (both_texts (operand_texts i.inputs) (operand_texts i.outputs) (after_text i h)).0
+side_texts Outputs i h = (both_texts (operand_texts i.inputs) (operand_texts i.outputs) (after_text i h)).1
 
 -- ---- an operand
 
@@ -77,9 +90,6 @@ operand_name operands k o is within h = (first_text (name_bytes o.name) (text_in
 pub operand_doc : (operands : List Operand) (k : ℕ) (o : Operand) → o ≡ get_or operands k o → k < length operands
     → are_texts (operand_texts operands) ≡ true → are_texts (text_in o.text) ≡ true
 operand_doc operands k o is within h = (first_text (name_bytes o.name) (text_in o.text) (texts_read operands k o is within h)).1
-
-pub text_there : (text : Option (List ℕ)) (t : List ℕ) → text ≡ Some t → are_texts (text_in text) ≡ true → is_utf8 t ≡ true
-text_there text t is h = (first_text t [] (ap (λ (o : Option (List ℕ)). are_texts (text_in o)) (sym is) ∙ h)).0
 
 -- ---- names
 

@@ -13,7 +13,7 @@ text_in None = []
 text_in (Some t) = t ∷ []
 
 -- the texts that an item holds: of a format its word and the name that is shown; of an instruction its name, the lines of its
--- documentation, and the name of each operand with the text that documents it
+-- documentation, the text after its name, and the name of each operand with the text that documents it
 abbrev pub format_texts : FormatItem → List (List ℕ)
 format_texts i = i.word ∷ (shown_or i.word i.shown ∷ [])
 
@@ -21,4 +21,4 @@ abbrev pub operand_texts : List Operand → List (List ℕ)
 operand_texts operands = flat_map (λ o. name_bytes o.name ∷ text_in o.text) operands
 
 abbrev pub inst_texts : InstItem → List (List ℕ)
-inst_texts i = name_bytes i.name ∷ (i.docs ++ (operand_texts i.inputs ++ operand_texts i.outputs))
+inst_texts i = name_bytes i.name ∷ (i.docs ++ (text_in i.text ++ (operand_texts i.inputs ++ operand_texts i.outputs)))

@@ -11,7 +11,7 @@ use Rattle.meta_file_syntax.specs.declared.insts.Property.TheVariants as propert
 use Rattle.meta_file_syntax.specs.declared.insts.Mark.{Mark}
 use Rattle.meta_file_syntax.specs.declared.insts.Mark.TheVariants as marks
 use Rattle.meta_file_syntax.specs.declared.insts.InstItem.{InstItem}
-use Rattle.meta_file_syntax.specs.Named.{name_bytes, doc_text}
+use Rattle.meta_file_syntax.specs.Named.{name_bytes, own_doc}
 use Rattle.meta_file_types.specs.Meant.{MeantType, Sense}
 use Rattle.meta_file_types.specs.Words.{Entry, type_of}
 use Rattle.meta_file_types.specs.Operands.{operand_of}
@@ -111,7 +111,7 @@ pub record MeantInst : Type 0 where
 abbrev pub inst_with : InstItem → ℕ → List MeantOperand → List MeantOperand → Option MeantType → MeantInst
 inst_with i format inputs outputs second = record {
   name = name_bytes i.name;
-  doc = doc_text i.docs;
+  doc = own_doc i.docs i.text;
   format = format;
   inputs = inputs;
   outputs = outputs;

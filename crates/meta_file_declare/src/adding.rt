@@ -1,7 +1,7 @@
 ghost use Rattle.std.specs.Prelude.{◌≡◌, ◌<◌, ◌≤◌, ◌+◌, ◌^◌, ◌++◌, ◌∷◌, [], List, ℕ, length, OnOk, OnErr, IfOk, Ok, Err, None, Some, true, if◌then◌else◌};
 ghost use Rattle.meta_operands.specs.Format.{built_format};
 ghost use Rattle.meta_inst.specs.Marks.{no_marks};
-ghost use Rattle.meta_file_syntax.specs.Named.{name_bytes, doc_text};
+ghost use Rattle.meta_file_syntax.specs.Named.{name_bytes, own_doc};
 ghost use Rattle.meta_file_types.specs.Plain.{same_word};
 ghost use Rattle.meta_file_types.specs.Said.{Said};
 ghost use Rattle.meta_file_types.specs.Registered.{Extends};
@@ -22,7 +22,7 @@ use super::formats::{designating, marked_in, with_slots};
 use super::insts::{FormatWord, Insts};
 use super::marks::{marks_in, second_in, with_marks, with_second};
 use super::operands::{Side, operands_in};
-use super::texts::{doc_from, is_text_format, is_text_inst, text_from};
+use super::texts::{inst_doc, is_text_format, is_text_inst, text_from};
 use meta_file_syntax::{FormatItem, InstItem, Item};
 use meta_file_types::{ItemError, Reason, Spelled, Types, shown_or};
 use meta_inst::{AllInstructions, InstructionBuilder, InstructionGroupBuilder};
@@ -48,7 +48,7 @@ fn format_of<'i>(
 }
 
 /// The instruction of an item, without operands and marks. It has no format yet that is looked at.
-#[tactic(auto, using(crate::proofs::TextParts::inst_name, crate::proofs::TextParts::inst_docs))]
+#[tactic(auto, using(crate::proofs::TextParts::inst_name))]
 fn without_operands(
     alloc: Global,
     format: FormatId,
@@ -57,7 +57,7 @@ fn without_operands(
     requires { are_texts (inst_texts item.now) ≡ true }
     ensures { IfOk result (λ b. b ≡ record {
       name = name_bytes item.now.name;
-      doc = doc_text item.now.docs;
+      doc = own_doc item.now.docs item.now.text;
       format = format;
       operands_in = None;
       operands_out = None;
@@ -66,7 +66,7 @@ fn without_operands(
     }) }
 {
     let name = text_from(alloc, item.name.as_slice())?;
-    let doc = doc_from(alloc, &item.docs)?;
+    let doc = inst_doc(alloc, item)?;
     Ok(InstructionBuilder::new(alloc, name, doc, format))
 }
 

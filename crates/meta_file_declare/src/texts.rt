@@ -1,6 +1,6 @@
 ghost use Rattle.std.specs.Prelude.{◌≡◌, ◌∷◌, IfOk, true};
 ghost use Rattle.std.specs.Str.{is_utf8};
-ghost use Rattle.meta_file_syntax.specs.Named.{name_bytes, doc_text};
+ghost use Rattle.meta_file_syntax.specs.Named.{name_bytes, doc_text, own_doc};
 ghost use Rattle.meta_file_types.specs.Texts.{are_texts};
 ghost use Rattle.meta_file_declare.specs.Texts.{text_of, names_in, item_texts};
 ghost use Rattle.meta_file_declare.specs.InstTexts.{text_in, format_texts, operand_texts, inst_texts};
@@ -78,6 +78,18 @@ pub(crate) fn doc_from(alloc: Global, docs: &Docs) -> Result<Text, AllocError>
     text_from(alloc, &text)
 }
 
+/// The documentation of an instruction: the text after its name, or without one the lines above.
+#[tactic(auto, using(crate::proofs::TextParts::inst_docs, crate::proofs::TextParts::inst_text))]
+pub(crate) fn inst_doc(alloc: Global, item: &InstItem) -> Result<Text, AllocError>
+    requires { are_texts (inst_texts item.now) ≡ true }
+    ensures { IfOk result (λ t. t ≡ own_doc item.now.docs item.now.text) }
+{
+    match &item.text {
+        Some(text) => text_from(alloc, text.as_slice()),
+        None => doc_from(alloc, &item.docs),
+    }
+}
+
 pub(crate) fn comment_text(alloc: Global, comment: &Option<Bytes>) -> Result<Text, AllocError>
     requires { is_utf8 (text_of comment.now) ≡ true }
     ensures { IfOk result (λ t. t ≡ text_of comment.now) }
@@ -128,6 +140,7 @@ pub(crate) fn is_text_inst(item: &InstItem) -> bool
 {
     is_text(item.name.as_slice())
         && are_lines(item.docs.as_slice())
+        && is_text_or_none(&item.text)
         && are_operands(item.inputs.as_slice())
         && are_operands(item.outputs.as_slice())
 }

@@ -1,7 +1,7 @@
 -- What the tests of tables, texts and items say together.
 use Rattle.std.proofs.Common.{◌≡◌, ◌∙◌, ℕ, List, refl, sym, subst}
 use Rattle.meta_file_syntax.specs.Laid.{laid}
-use Rattle.meta_file_syntax.specs.Squeezed.{read_in}
+use Rattle.meta_file_reader.specs.ReadIn.{read_in}
 use Rattle.meta_file_syntax.specs.declared.items.Item.{Item}
 use Rattle.meta_file_syntax.specs.Spelling.{spelled_all}
 use Rattle.meta_file_reader.specs.Fits.{AllFit}

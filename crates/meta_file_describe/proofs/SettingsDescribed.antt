@@ -8,7 +8,7 @@ use Rattle.meta_settings.specs.Layout.{Layout}
 use Rattle.meta_build.specs.AllDeclared.{Declared}
 use Rattle.meta_build.specs.BuiltDeclarations.{BuiltDeclarations, AreBuilt}
 use Rattle.meta_file_syntax.specs.Laid.{laid, CanWriteAll}
-use Rattle.meta_file_syntax.specs.Squeezed.{read_in}
+use Rattle.meta_file_reader.specs.ReadIn.{read_in}
 use Rattle.meta_file_syntax.specs.declared.items.Item.{Item}
 use Rattle.meta_file_syntax.specs.Spelling.{spelled_all}
 use Rattle.meta_file_declare.specs.AllItems.{Declares}

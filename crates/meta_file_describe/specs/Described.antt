@@ -8,7 +8,7 @@
 use Rattle.std.specs.Prelude.{◌≡◌, ℕ, List, [], All, map}
 use Rattle.std.specs.Str.{IsUtf8}
 use Rattle.meta_file_syntax.specs.Laid.{laid}
-use Rattle.meta_file_syntax.specs.Squeezed.{read_in}
+use Rattle.meta_file_reader.specs.ReadIn.{read_in}
 use Rattle.meta_file_syntax.specs.declared.items.Item.{Item}
 use Rattle.meta_file_syntax.specs.Spelling.{spelled_all}
 use Rattle.meta_file_reader.specs.Fits.{AllFit}

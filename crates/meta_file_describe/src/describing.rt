@@ -5,7 +5,7 @@ ghost use Rattle.meta_file_syntax.specs.declared.items.Item.{Item as spec_Item};
 ghost use Rattle.meta_file_declare.specs.AllItems.{Declares};
 ghost use Rattle.meta_file_reader.specs.Fits.{AllFit};
 ghost use Rattle.meta_file_syntax.specs.Laid.{laid};
-ghost use Rattle.meta_file_syntax.specs.Squeezed.{read_in};
+ghost use Rattle.meta_file_reader.specs.ReadIn.{read_in};
 ghost use Rattle.meta_file_syntax.specs.Spelling.{spelled_all};
 ghost use Rattle.meta_file_describe.specs.Described.{Describes, IsDescription, AreBuiltAlike, HoldSettingsAlone};
 ghost use Rattle.meta_file_describe.specs.SettingItems.{items_of_groups, EndWith};

@@ -106,6 +106,7 @@ fn inst_of(
     Ok(InstItem {
         docs: docs_of(alloc, inst.doc().as_bytes())?,
         name: name_of(alloc, inst.name().as_bytes())?,
+        text: None,
         format: formats.word(alloc, inst.format())?,
         inputs: Listed::of(operands_of(alloc, kinds, inst.operands_in())?),
         outputs: Listed::of(operands_of(alloc, kinds, inst.operands_out())?),

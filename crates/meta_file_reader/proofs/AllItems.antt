@@ -198,11 +198,11 @@ format_reads i more fit apart =
     after_docs [] key.Format (format_item i) more
     ∙ ap (λ (r : Result (FormatItem × List Token) Fault). r >>= λ f. Ok (item.Format f.0, f.1)) (format_again i more fit apart)
 
-inst_reads : (i : InstItem) (more : List Token) → Apart (item.Inst i) more
+inst_reads : (i : InstItem) (more : List Token) → Fits (item.Inst i) → Apart (item.Inst i) more
     → item_at (spelled (item.Inst i) ++ more) ≡ Ok (item.Inst i, more)
-inst_reads i more apart =
+inst_reads i more fit apart =
     after_docs i.docs key.Inst (inst_item i) more
-    ∙ ap (λ (r : Result (InstItem × List Token) Fault). r >>= λ x. Ok (item.Inst x.0, x.1)) (inst_again i more apart)
+    ∙ ap (λ (r : Result (InstItem × List Token) Fault). r >>= λ x. Ok (item.Inst x.0, x.1)) (inst_again i more fit apart)
 
 preset_reads : (i : PresetItem) (more : List Token) → item_at (spelled (item.Preset i) ++ more) ≡ Ok (item.Preset i, more)
 preset_reads i more =
@@ -215,7 +215,7 @@ item_again (item.Type i) more fit end = type_reads i more fit (ends_apart (item.
 item_again (item.Alias i) more fit end = alias_reads i more (ends_apart (item.Alias i) more end)
 item_again (item.Kind i) more fit end = kind_reads i more (ends_apart (item.Kind i) more end)
 item_again (item.Format i) more fit end = format_reads i more fit (ends_apart (item.Format i) more end)
-item_again (item.Inst i) more fit end = inst_reads i more (ends_apart (item.Inst i) more end)
+item_again (item.Inst i) more fit end = inst_reads i more fit (ends_apart (item.Inst i) more end)
 item_again (item.Group n) more fit end = group_again n more
 item_again (item.Bool b) more fit end =
     after_docs b.docs key.Bool (bool_item b) more
@@ -237,7 +237,7 @@ item_begins (item.Type i) more fit apart = ((item.Type i, more), type_reads i mo
 item_begins (item.Alias i) more fit apart = ((item.Alias i, more), alias_reads i more apart, omega arith)
 item_begins (item.Kind i) more fit apart = ((item.Kind i, more), kind_reads i more apart, omega arith)
 item_begins (item.Format i) more fit apart = ((item.Format i, more), format_reads i more fit apart, omega arith)
-item_begins (item.Inst i) more fit apart = ((item.Inst i, more), inst_reads i more apart, omega arith)
+item_begins (item.Inst i) more fit apart = ((item.Inst i, more), inst_reads i more fit apart, omega arith)
 item_begins (item.Group n) more fit apart = ((item.Group n, more), group_again n more, omega arith)
 item_begins (item.Bool b) more fit apart =
     let a = bool_begins b more in

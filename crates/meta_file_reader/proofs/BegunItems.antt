@@ -44,7 +44,9 @@ use Rattle.meta_file_reader.specs.SetReading.{part_number_at, high_at, span_at, 
 use Rattle.meta_file_reader.specs.SetReading.{variable_at, type_item_at, type_at, enum_value_at, imm_enum_at, value_of_at, sort_at}
 use Rattle.meta_file_reader.specs.SetReading.{field_at}
 use Rattle.meta_file_reader.specs.SetReading.{kind_item_at, designated_at, slot_at, slots_at, format_item_at, operand_at, outputs_at}
-use Rattle.meta_file_reader.specs.SetReading.{mark_at, marks_at, inputs_at, inst_item_at}
+use Rattle.meta_file_reader.specs.SetReading.{mark_at, marks_at, inputs_at, own_text_at, after_name, inst_item_at}
+use Rattle.meta_file_reader.specs.Fits.{OneDoc}
+use Rattle.meta_file_reader.proofs.OwnText.{text_takes, text_fits, no_text}
 use Rattle.meta_file_reader.specs.Reading.{bool_item_at, num_item_at, enum_item_at, preset_item_at, item_by, item_after}
 use Rattle.meta_file_reader.specs.Reading.{item_at}
 use Rattle.meta_file_reader.specs.Fits.{HighFits, SpanFits, MembersFit, PartFits, SetFits, SlotFits, FirstFits, SlotsFit, Fits}
@@ -506,39 +508,47 @@ marks_told : Begins mark_list Any marks_at
 unfolding marks_at
 marks_told ts = marks_by ts (sign_first 91 ts) refl
 
-inst_starts : (ds : List (List ℕ)) (n : Name) (f : List ℕ × List Operand) (os : List Operand) (ms : Option (List Mark))
-    (d more : List Token)
-    → format_inputs f ++ (outputs os ++ mark_list ms) ≡ d ++ more → OfItem ds key.Inst (name n ∷ Sign 58 ∷ d)
-inst_starts ds n f os ms d more e =
-    an_item ds key.Inst (item.Inst (record { docs = ds; name = n; format = f.0; inputs = f.1; outputs = os; marks = ms }))
-    (name n ∷ Sign 58 ∷ Word f.0 ∷ Sign 40 ∷ (listed operand f.1 ++ Sign 41 ∷ (outputs os ++ mark_list ms))) (name n ∷ Sign 58 ∷ d) more tt
-    refl (ap (λ (u : List Token). name n ∷ Sign 58 ∷ u)
-    (ap (λ (u : List Token). Word f.0 ∷ Sign 40 ∷ u)
-    (sym (append_assoc (listed operand f.1) (Sign 41 ∷ []) (outputs os ++ mark_list ms))) ∙ e))
+inst_starts : (ds : List (List ℕ)) (n : Name) (c : Option (List ℕ)) (f : List ℕ × List Operand) (os : List Operand)
+    (ms : Option (List Mark)) (d more : List Token) → OneDoc ds c
+    → format_inputs f ++ (outputs os ++ mark_list ms) ≡ d ++ more → OfItem ds key.Inst (name n ∷ (comment c ++ Sign 58 ∷ d))
+inst_starts ds n c f os ms d more fit e =
+    let body : List Token = Word f.0 ∷ Sign 40 ∷ (listed operand f.1 ++ Sign 41 ∷ (outputs os ++ mark_list ms)) in
+    let same : body ≡ d ++ more = ap (λ (u : List Token). Word f.0 ∷ Sign 40 ∷ u)
+    (sym (append_assoc (listed operand f.1) (Sign 41 ∷ []) (outputs os ++ mark_list ms))) ∙ e in
+    an_item ds key.Inst (item.Inst (record { docs = ds; name = n; text = c; format = f.0; inputs = f.1; outputs = os; marks = ms }))
+    (name n ∷ (comment c ++ Sign 58 ∷ body)) (name n ∷ (comment c ++ Sign 58 ∷ d)) more fit refl (ap (λ (u : List Token). name n ∷ u)
+    (with_front_of (comment c) (Sign 58 ∷ body) (Sign 58 ∷ d) more (ap (λ (u : List Token). Sign 58 ∷ u) same)))
 
-an_inst : (ds : List (List ℕ)) (n : Name) (d more : List Token)
-    → name n ∷ Sign 58 ∷ Word a_word ∷ Sign 40 ∷ Sign 41 ∷ [] ≡ d ++ more → OfItem ds key.Inst d
-an_inst ds n d more e =
-    an_item ds key.Inst (item.Inst (record { docs = ds; name = n; format = a_word; inputs = []; outputs = []; marks = None }))
-    (name n ∷ Sign 58 ∷ Word a_word ∷ Sign 40 ∷ Sign 41 ∷ []) d more tt refl e
+an_inst : (ds : List (List ℕ)) (n : Name) (c : Option (List ℕ)) (d more : List Token) → OneDoc ds c
+    → name n ∷ (comment c ++ Sign 58 ∷ Word a_word ∷ Sign 40 ∷ Sign 41 ∷ []) ≡ d ++ more → OfItem ds key.Inst d
+an_inst ds n c d more fit e =
+    an_item ds key.Inst (item.Inst (record { docs = ds; name = n; text = c; format = a_word; inputs = []; outputs = []; marks = None }))
+    (name n ∷ (comment c ++ Sign 58 ∷ Word a_word ∷ Sign 40 ∷ Sign 41 ∷ [])) d more fit refl e
 
 inst_told : (ds : List (List ℕ)) (ts : List Token) → Told (OfItem ds key.Inst) ts (inst_item_at ds ts)
 unfolding inst_item_at
 inst_told ds ts =
     let P : List Token → Type 0 = OfItem ds key.Inst in
-    told_name P wanted.InstName ts _ (an_inst ds a_name [] _ refl)
-    (λ n. told_sign (λ d. P (name n.0 ∷ d)) (wanted.Sign 58) 58 n.1 _ (an_inst ds n.0 (name n.0 ∷ []) _ refl)
-    (λ after. told_part (λ d. P (name n.0 ∷ Sign 58 ∷ d)) format_inputs Any inputs_at after _ inputs_takes inputs_told
-    (λ d s. inst_starts ds n.0 s.0 [] None d (s.1 ++ []) (with_tail (format_inputs s.0) d s.1 [] s.3))
-    (λ f e. told_part (λ d. P (name n.0 ∷ Sign 58 ∷ (format_inputs f.0 ++ d))) outputs Any outputs_at f.1 _ outputs_takes outputs_told
-    (λ d s. inst_starts ds n.0 f.0 s.0 None (format_inputs f.0 ++ d) (s.1 ++ [])
+    told_name P wanted.InstName ts _ (an_inst ds a_name None [] _ (no_text ds) refl)
+    (λ n. let c : Option (List ℕ) = (own_text_at ds n.1).0 in
+    let fit : OneDoc ds c = text_fits ds n.1 in
+    told_after (λ d. P (name n.0 ∷ d)) (comment (own_text_at ds n.1).0) (own_text_at ds n.1).1 n.1 _ (text_takes ds n.1)
+    (told_sign (λ d. P (name n.0 ∷ (comment c ++ d))) (after_name ds c) 58 (own_text_at ds n.1).1 _
+    (an_inst ds n.0 c (name n.0 ∷ (comment c ++ [])) (Sign 58 ∷ Word a_word ∷ Sign 40 ∷ Sign 41 ∷ []) fit
+    (ap (λ (u : List Token). name n.0 ∷ u) (sym (append_assoc (comment c) [] (Sign 58 ∷ Word a_word ∷ Sign 40 ∷ Sign 41 ∷ [])))))
+    (λ after. told_part (λ d. P (name n.0 ∷ (comment c ++ Sign 58 ∷ d))) format_inputs Any inputs_at after _ inputs_takes inputs_told
+    (λ d s. inst_starts ds n.0 c s.0 [] None d (s.1 ++ []) fit (with_tail (format_inputs s.0) d s.1 [] s.3))
+    (λ f e. told_part (λ d. P (name n.0 ∷ (comment c ++ Sign 58 ∷ (format_inputs f.0 ++ d)))) outputs Any outputs_at f.1 _ outputs_takes
+    outputs_told
+    (λ d s. inst_starts ds n.0 c f.0 s.0 None (format_inputs f.0 ++ d) (s.1 ++ []) fit
     (with_front_of (format_inputs f.0) (outputs s.0 ++ []) d (s.1 ++ []) (with_tail (outputs s.0) d s.1 [] s.3)))
-    (λ os g. told_bind (λ d. P (name n.0 ∷ Sign 58 ∷ (format_inputs f.0 ++ (outputs os.0 ++ d)))) os.1 (marks_at os.1) _
-    (told_as (Starts mark_list Any) (λ d. P (name n.0 ∷ Sign 58 ∷ (format_inputs f.0 ++ (outputs os.0 ++ d)))) os.1 (marks_at os.1)
-    (λ d s. inst_starts ds n.0 f.0 os.0 s.0 (format_inputs f.0 ++ (outputs os.0 ++ d)) s.1
+    (λ os g. told_bind (λ d. P (name n.0 ∷ (comment c ++ Sign 58 ∷ (format_inputs f.0 ++ (outputs os.0 ++ d))))) os.1 (marks_at os.1) _
+    (told_as (Starts mark_list Any) (λ d. P (name n.0 ∷ (comment c ++ Sign 58 ∷ (format_inputs f.0 ++ (outputs os.0 ++ d))))) os.1
+    (marks_at os.1)
+    (λ d s. inst_starts ds n.0 c f.0 os.0 s.0 (format_inputs f.0 ++ (outputs os.0 ++ d)) s.1 fit
     (with_front_of (format_inputs f.0) (outputs os.0 ++ mark_list s.0) (outputs os.0 ++ d) s.1
     (with_front_of (outputs os.0) (mark_list s.0) d s.1 s.3)))
-    (marks_told os.1)) (λ ms r. tt)))))
+    (marks_told os.1)) (λ ms r. tt))))))
 
 -- ---- settings
 

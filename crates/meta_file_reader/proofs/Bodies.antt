@@ -203,9 +203,11 @@ of_body (item.Alias i) = of_type i.means
 of_body (item.Kind i) = plain_append (kind_sort i.sort) (Quoted i.rust ∷ field_name i.field) (of_sort i.sort) (of_field i.field)
 of_body (item.Format i) = plain_append (comment i.shown) (Sign 58 ∷ format_slots i.slots) (of_comment i.shown) (of_slots i.slots)
 of_body (item.Inst i) =
-    rw (of_name i.name) (plain_append (listed operand i.inputs) (Sign 41 ∷ (outputs i.outputs ++ mark_list i.marks))
+    rw (of_name i.name) (plain_append (comment i.text) (Sign 58 ∷ Word i.format ∷ Sign 40 ∷ (listed operand i.inputs
+    ++ Sign 41 ∷ (outputs i.outputs ++ mark_list i.marks))) (of_comment i.text)
+    (plain_append (listed operand i.inputs) (Sign 41 ∷ (outputs i.outputs ++ mark_list i.marks))
     (of_listed operand of_operand i.inputs) (plain_append (outputs i.outputs) (mark_list i.marks) (of_outputs i.outputs)
-    (of_marks i.marks)))
+    (of_marks i.marks))))
 of_body (item.Group n) = of_named n
 of_body (item.Bool i) = rw (of_name i.name, of_truth i.default) (of_comment i.comment)
 of_body (item.Num i) = rw (of_name i.name) (of_comment i.comment)

@@ -10,7 +10,7 @@ use Rattle.meta_file_syntax.specs.declared.token.Token.{Token}
 use Rattle.meta_file_syntax.specs.declared.token.Token.TheVariants.{Key, Word, Quoted, Sign, Doc, Stray}
 use Rattle.meta_file_syntax.specs.Scan.{tokens_in}
 use Rattle.meta_file_syntax.specs.Encoding.{lines_before}
-use Rattle.meta_file_syntax.specs.Squeezed.{is_comma, ends_first, squeezed, read_in}
+use Rattle.meta_file_syntax.specs.Squeezed.{is_comma, ends_first, squeezed, squeezed_in}
 use Rattle.meta_file_syntax.specs.declared.items.Item.{Item}
 use Rattle.meta_file_syntax.specs.Spelling.{docs, spelled, spelled_all}
 use Rattle.meta_file_reader.proofs.Bodies.{docs_of, keyword_of_item, body_of, in_parts, plain, of_body}
@@ -28,7 +28,7 @@ abbrev pub clean : List Token → Bool
 clean [] = true
 clean (t ∷ ts) = is_clean t && clean ts
 
-clean_append : (a b : List Token) → clean a ≡ true → clean b ≡ true → clean (a ++ b) ≡ true
+pub clean_append : (a b : List Token) → clean a ≡ true → clean b ≡ true → clean (a ++ b) ≡ true
 clean_append [] b h g = g
 clean_append (t ∷ ts) b h g = let p = and_parts (is_clean t) (clean ts) h in rw p.0 (clean_append ts b p.1 g)
 
@@ -58,7 +58,7 @@ of_all (i ∷ is) = clean_append (spelled i) (spelled_all is) (of_spelled i) (of
 
 -- ---- a text
 
-comma_is_clean : (t : Token) → is_comma t ≡ true → is_clean t ≡ true
+pub comma_is_clean : (t : Token) → is_comma t ≡ true → is_clean t ≡ true
 comma_is_clean (Key k) h = refl
 comma_is_clean (Word w) h = refl
 comma_is_clean (Quoted t) h = refl
@@ -86,5 +86,5 @@ utf8_by text true e h = IsUtf8-from_is_utf8 text e
 utf8_by text false e h =
     absurd (flaw_after (tokens_in (lines_before text)) NotUtf8 (of_squeezed (tokens_in (lines_before text) ++ Stray NotUtf8 ∷ []) h))
 
-pub spelled_is_utf8 : (text : List ℕ) (is : List Item) → read_in text ≡ spelled_all is → IsUtf8 text
-spelled_is_utf8 text is e = utf8_by text (is_utf8 text) refl (ap clean e ∙ of_all is)
+pub clean_is_utf8 : (text : List ℕ) → clean (squeezed_in text) ≡ true → IsUtf8 text
+clean_is_utf8 text h = utf8_by text (is_utf8 text) refl h

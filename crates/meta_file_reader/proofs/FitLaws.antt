@@ -17,6 +17,7 @@ use Rattle.meta_file_syntax.specs.declared.types.AliasItem.{AliasItem}
 use Rattle.meta_file_syntax.specs.declared.formats.Slot.{Slot}
 use Rattle.meta_file_syntax.specs.declared.formats.Slot.TheVariants as slots
 use Rattle.meta_file_syntax.specs.declared.formats.FormatItem.{FormatItem}
+use Rattle.meta_file_syntax.specs.declared.insts.InstItem.{InstItem}
 use Rattle.meta_file_syntax.specs.declared.items.NumItem.{NumItem}
 use Rattle.meta_file_syntax.specs.declared.items.Item.{Item}
 use Rattle.meta_file_syntax.specs.declared.items.Item.TheVariants as item
@@ -32,9 +33,11 @@ use Rattle.meta_file_reader.specs.Parts.{word_first, sign_first, digit_first}
 use Rattle.meta_file_reader.specs.Lists.{separator_at, part_after, step_at, with_step, more_at, with_front, some_at}
 use Rattle.meta_file_reader.specs.SetReading.{part_number_at, high_at, span_at, members_at, part_at, set_at, wanted_colon, alias_at}
 use Rattle.meta_file_reader.specs.SetReading.{variable_at, type_item_at, type_at, designated_at, slot_at, slots_at, format_item_at}
-use Rattle.meta_file_reader.specs.SetReading.{kind_item_at, inst_item_at}
+use Rattle.meta_file_reader.specs.SetReading.{kind_item_at, inputs_at, outputs_at, marks_at, own_text_at, after_name, inst_item_at}
 use Rattle.meta_file_reader.specs.Reading.{bool_item_at, num_item_at, enum_item_at, preset_item_at, item_by, item_after, item_at}
-use Rattle.meta_file_reader.specs.Fits.{Every, HighFits, SpanFits, MembersFit, PartFits, SetFits, SlotFits, FirstFits, SlotsFit, Fits}
+use Rattle.meta_file_reader.specs.Fits.{Every, HighFits, SpanFits, MembersFit, PartFits, SetFits, SlotFits, FirstFits, SlotsFit, OneDoc}
+use Rattle.meta_file_reader.specs.Fits.{Fits}
+use Rattle.meta_file_reader.proofs.OwnText.{text_fits}
 use Rattle.meta_file_reader.proofs.PartLaws.{bind_ok, ok_is, number_fits, word_takes, not_word}
 use Rattle.meta_file_reader.proofs.ListLaws.{some_takes}
 use Rattle.meta_file_reader.proofs.KindLaws.{slot_takes}
@@ -253,6 +256,19 @@ num_fits ds ts x e =
     let small : c.0.0 ≤ 255 = number_fits wanted.Byte 255 b.0 c.0 c.1 in
     subst (λ (y : NumItem × List Token). y.0.default < 2 ^ 8) (ok_is made x c.2) (omega arith)
 
+inst_fits : (ds : List (List ℕ)) → Gets (λ i. OneDoc i.docs i.text) (inst_item_at ds)
+unfolding inst_item_at
+inst_fits ds ts x e =
+    let a = bind_ok (name_at wanted.InstName ts) _ x e in
+    let text = own_text_at ds a.0.1 in
+    let b = bind_ok (sign_or_at (after_name ds text.0) 58 text.1) _ x a.2 in
+    let c = bind_ok (inputs_at b.0) _ x b.2 in
+    let d = bind_ok (outputs_at c.0.1) _ x c.2 in
+    let f = bind_ok (marks_at d.0.1) _ x d.2 in
+    let made : InstItem × List Token =
+    (record { docs = ds; name = a.0.0; text = text.0; format = c.0.0.0; inputs = c.0.0.1; outputs = d.0.0; marks = f.0.0 }, f.0.1) in
+    subst (λ (y : InstItem × List Token). OneDoc y.0.docs y.0.text) (ok_is made x f.2) (text_fits ds a.0.1)
+
 -- what holds of each item that a reader makes, and of one without documentation
 pub wrapped : {A : Type 0} (P : Item × List Token → Type 0) (read : Result (A × List Token) Fault) (wrap : A → Item)
     (x : Item × List Token) → ((y : A × List Token) → read ≡ Ok y → P (wrap y.0, y.1)) → (read >>= λ y. Ok (wrap y.0, y.1)) ≡ Ok x → P x
@@ -271,7 +287,7 @@ by_fits ds key.Type ts x e = type_fits ds ts x e
 by_fits ds key.Kind ts x e = wrapped FitsIn (kind_item_at ds ts) (λ i. item.Kind i) x (λ y r. tt) e
 by_fits ds key.Format ts x e =
     undocumented FitsIn key.Format ts (format_item_at ts) (λ i. item.Format i) x (length ds == 0) (λ y r. format_fits ts y r) e
-by_fits ds key.Inst ts x e = wrapped FitsIn (inst_item_at ds ts) (λ i. item.Inst i) x (λ y r. tt) e
+by_fits ds key.Inst ts x e = wrapped FitsIn (inst_item_at ds ts) (λ i. item.Inst i) x (λ y r. inst_fits ds ts y r) e
 by_fits ds key.Group ts x e =
     undocumented FitsIn key.Group ts (name_at wanted.GroupName ts) (λ n. item.Group n) x (length ds == 0) (λ y r. tt) e
 by_fits ds key.Bool ts x e = wrapped FitsIn (bool_item_at ds ts) (λ i. item.Bool i) x (λ y r. tt) e

@@ -25,7 +25,10 @@ use Rattle.meta_file_reader.specs.Parts.{sign_first}
 use Rattle.meta_file_reader.specs.Lists.{some_at, list_at, closes_first}
 use Rattle.meta_file_reader.specs.Fits.{Every}
 use Rattle.meta_file_reader.specs.Apart.{OfLast, FunctionsApart, TypeApart, TextApart, OperandApart, OutputsApart, InstApart}
-use Rattle.meta_file_reader.specs.SetReading.{type_at, operand_at, outputs_at, mark_at, marks_at, inputs_at, inst_item_at}
+use Rattle.meta_file_reader.specs.SetReading.{type_at, operand_at, outputs_at, mark_at, marks_at, inputs_at}
+use Rattle.meta_file_reader.specs.SetReading.{own_text_at, after_name, inst_item_at}
+use Rattle.meta_file_reader.specs.Fits.{OneDoc}
+use Rattle.meta_file_reader.proofs.OwnText.{text_takes, text_within, text_again}
 use Rattle.meta_file_reader.proofs.PartLaws.{bind_ok, ok_is, Shorter, longer, shorter_bind, shorter_sign, drop_less, name_again}
 use Rattle.meta_file_reader.proofs.PartLaws.{name_takes}
 use Rattle.meta_file_reader.proofs.PartLaws.{name_within, word_takes, word_within, sign_takes, sign_within, chosen_takes, chosen_within}
@@ -357,44 +360,56 @@ pub inst_takes : (ds : List (List ℕ)) (ts : List Token) (x : InstItem × List 
 unfolding inst_item_at
 inst_takes ds ts x e =
     let a = bind_ok (name_at wanted.InstName ts) _ x e in
-    let b = bind_ok (sign_at 58 a.0.1) _ x a.2 in
+    let text = own_text_at ds a.0.1 in
+    let b = bind_ok (sign_or_at (after_name ds text.0) 58 text.1) _ x a.2 in
     let c = bind_ok (inputs_at b.0) _ x b.2 in
     let d = bind_ok (outputs_at c.0.1) _ x c.2 in
     let f = bind_ok (marks_at d.0.1) _ x d.2 in
     let made : InstItem × List Token =
-    (record { docs = ds; name = a.0.0; format = c.0.0.0; inputs = c.0.0.1; outputs = d.0.0; marks = f.0.0 }, f.0.1) in
+    (record { docs = ds; name = a.0.0; text = text.0; format = c.0.0.0; inputs = c.0.0.1; outputs = d.0.0; marks = f.0.0 }, f.0.1) in
     let t0 : ts ≡ name a.0.0 ∷ a.0.1 = name_takes wanted.InstName ts a.0 a.1 in
-    let t1 : a.0.1 ≡ Sign 58 ∷ b.0 = sign_takes (wanted.Sign 58) 58 a.0.1 b.0 b.1 in
-    let t2 : b.0 ≡ format_inputs c.0.0 ++ c.0.1 = inputs_takes b.0 c.0 c.1 in
-    let t3 : c.0.1 ≡ outputs d.0.0 ++ d.0.1 = outputs_takes c.0.1 d.0 d.1 in
-    let t4 : d.0.1 ≡ mark_list f.0.0 ++ f.0.1 = marks_takes d.0.1 f.0 f.1 in
-    let tail : b.0 ≡ format_inputs c.0.0 ++ (outputs d.0.0 ++ (mark_list f.0.0 ++ f.0.1)) = t2
-    ∙ ap (λ (r : List Token). format_inputs c.0.0 ++ r) (t3 ∙ ap (λ (r : List Token). outputs d.0.0 ++ r) t4) in
+    let t1 : a.0.1 ≡ comment text.0 ++ text.1 = text_takes ds a.0.1 in
+    let t2 : text.1 ≡ Sign 58 ∷ b.0 = sign_takes (after_name ds text.0) 58 text.1 b.0 b.1 in
+    let t3 : b.0 ≡ format_inputs c.0.0 ++ c.0.1 = inputs_takes b.0 c.0 c.1 in
+    let t4 : c.0.1 ≡ outputs d.0.0 ++ d.0.1 = outputs_takes c.0.1 d.0 d.1 in
+    let t5 : d.0.1 ≡ mark_list f.0.0 ++ f.0.1 = marks_takes d.0.1 f.0 f.1 in
+    let parts : b.0 ≡ format_inputs c.0.0 ++ (outputs d.0.0 ++ (mark_list f.0.0 ++ f.0.1)) = t3
+    ∙ ap (λ (r : List Token). format_inputs c.0.0 ++ r) (t4 ∙ ap (λ (r : List Token). outputs d.0.0 ++ r) t5) in
+    let body : List Token =
+    Word c.0.0.0 ∷ Sign 40 ∷ (listed operand c.0.0.1 ++ Sign 41 ∷ (outputs d.0.0 ++ mark_list f.0.0)) in
+    let tail : b.0 ≡ body ++ f.0.1 = parts ∙ simp append_assoc in
     let whole : ts ≡ inst_item made.0 ++ made.1 = t0
-    ∙ ap (λ (r : List Token). name a.0.0 ∷ r) (t1 ∙ ap (λ (r : List Token). Sign 58 ∷ r) (tail ∙ simp append_assoc)) in
+    ∙ ap (λ (r : List Token). name a.0.0 ∷ r) (t1
+    ∙ ap (λ (r : List Token). comment text.0 ++ r) (t2 ∙ ap (λ (r : List Token). Sign 58 ∷ r) tail)
+    ∙ sym (append_assoc (comment text.0) (Sign 58 ∷ body) f.0.1)) in
     subst (InstTaken ds ts) (ok_is made x f.2) (together ds key.Inst ts (inst_item made.0) made.1 whole)
 
 pub inst_within : (ds : List (List ℕ)) → Keeps (inst_item_at ds)
 unfolding inst_item_at
 inst_within ds ts =
     shorter_bind ts (name_at wanted.InstName ts) _ (name_within wanted.InstName ts)
-    (λ n. shorter_sign n.1 (sign_at 58 n.1) _ (sign_within (wanted.Sign 58) 58 n.1)
+    (λ n. longer (own_text_at ds n.1).1 n.1 _ (text_within ds n.1)
+    (shorter_sign (own_text_at ds n.1).1 (sign_or_at (after_name ds (own_text_at ds n.1).0) 58 (own_text_at ds n.1).1) _
+    (sign_within (after_name ds (own_text_at ds n.1).0) 58 (own_text_at ds n.1).1)
     (λ after. shorter_bind after (inputs_at after) _ (inputs_within after)
     (λ is. shorter_bind is.1 (outputs_at is.1) _ (outputs_within is.1)
-    (λ os. shorter_bind os.1 (marks_at os.1) _ (marks_within os.1) (λ ms. omega arith)))))
+    (λ os. shorter_bind os.1 (marks_at os.1) _ (marks_within os.1) (λ ms. omega arith))))))
 
-pub inst_again : (i : InstItem) (rest : List Token) → InstApart i.outputs i.marks rest → inst_item_at i.docs (inst_item i ++ rest) ≡ Ok (i, rest)
+pub inst_again : (i : InstItem) (rest : List Token) → OneDoc i.docs i.text → InstApart i.outputs i.marks rest
+    → inst_item_at i.docs (inst_item i ++ rest) ≡ Ok (i, rest)
 unfolding inst_item_at
-inst_again i rest apart =
+inst_again i rest fit apart =
     let tail = mark_list i.marks ++ rest in
-    let same : inst_item i ++ rest
-    ≡ name i.name ∷ Sign 58 ∷ Word i.format ∷ Sign 40 ∷ (listed operand i.inputs ++ Sign 41 ∷ (outputs i.outputs ++ tail)) =
+    let same : inst_item i ++ rest ≡ name i.name
+    ∷ (comment i.text ++ Sign 58 ∷ Word i.format ∷ Sign 40 ∷ (listed operand i.inputs ++ Sign 41 ∷ (outputs i.outputs ++ tail))) =
     simp append_assoc in
-    let read : inst_item_at i.docs (name i.name ∷ Sign 58 ∷ Word i.format ∷ Sign 40 ∷ (listed operand i.inputs
-    ++ Sign 41 ∷ (outputs i.outputs ++ tail))) ≡ Ok (i, rest) =
+    let read : inst_item_at i.docs (name i.name ∷ (comment i.text
+    ++ Sign 58 ∷ Word i.format ∷ Sign 40 ∷ (listed operand i.inputs ++ Sign 41 ∷ (outputs i.outputs ++ tail)))) ≡ Ok (i, rest) =
     rw (
-      name_again wanted.InstName i.name (Sign 58 ∷ Word i.format ∷ Sign 40 ∷ (listed operand i.inputs
-          ++ Sign 41 ∷ (outputs i.outputs ++ tail))),
+      name_again wanted.InstName i.name (comment i.text
+          ++ Sign 58 ∷ Word i.format ∷ Sign 40 ∷ (listed operand i.inputs ++ Sign 41 ∷ (outputs i.outputs ++ tail))),
+      text_again i.docs i.text (Sign 58 ∷ Word i.format ∷ Sign 40 ∷ (listed operand i.inputs
+          ++ Sign 41 ∷ (outputs i.outputs ++ tail))) fit refl,
       inputs_again i.format i.inputs (outputs i.outputs ++ tail),
       outputs_again i.outputs tail (after_outputs i.outputs i.marks rest apart),
       marks_again i.marks rest (apart_after_marks i.outputs i.marks rest apart),
@@ -464,11 +479,12 @@ pub inst_leaves : (ds : List (List ℕ)) → Leaves (λ i. InstApart i.outputs i
 unfolding inst_item_at
 inst_leaves ds ts x e =
     let a = bind_ok (name_at wanted.InstName ts) _ x e in
-    let b = bind_ok (sign_at 58 a.0.1) _ x a.2 in
+    let text = own_text_at ds a.0.1 in
+    let b = bind_ok (sign_or_at (after_name ds text.0) 58 text.1) _ x a.2 in
     let c = bind_ok (inputs_at b.0) _ x b.2 in
     let d = bind_ok (outputs_at c.0.1) _ x c.2 in
     let f = bind_ok (marks_at d.0.1) _ x d.2 in
     let made : InstItem × List Token =
-    (record { docs = ds; name = a.0.0; format = c.0.0.0; inputs = c.0.0.1; outputs = d.0.0; marks = f.0.0 }, f.0.1) in
+    (record { docs = ds; name = a.0.0; text = text.0; format = c.0.0.0; inputs = c.0.0.1; outputs = d.0.0; marks = f.0.0 }, f.0.1) in
     subst (λ (y : InstItem × List Token). InstApart y.0.outputs y.0.marks y.1) (ok_is made x f.2)
     (marks_leave d.0.0 d.0.1 f.0 (outputs_leave c.0.1 d.0 d.1) f.1)

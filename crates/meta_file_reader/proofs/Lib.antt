@@ -5,6 +5,9 @@ mod Bodies
 mod Clean
 mod ClosedLoop
 mod Ends
+mod FamilyClean
+mod FamilyFine
+mod FamilyReading
 mod FitLaws
 mod InstLaws
 mod KeyCount
@@ -13,6 +16,7 @@ mod LeaveLaws
 mod LineLaws
 mod ListLaws
 mod Loop
+mod OwnText
 mod PartLaws
 mod Refusals
 mod Rewritten

@@ -5,7 +5,7 @@ use Rattle.std.specs.Prelude.{IfOk, ◌↔◌}
 use Rattle.std.specs.Str.{IsUtf8}
 use Rattle.meta_file_syntax.specs.declared.token.Token.{Token}
 use Rattle.meta_file_syntax.specs.Encoding.{text_last_line}
-use Rattle.meta_file_syntax.specs.Squeezed.{read_in, read_lines}
+use Rattle.meta_file_reader.specs.ReadIn.{read_in, read_lines}
 use Rattle.meta_file_syntax.specs.declared.items.Item.{Item}
 use Rattle.meta_file_syntax.specs.Spelling.{spelled_all}
 use Rattle.meta_file_reader.specs.declared.fault.Fault.{Fault}
@@ -21,7 +21,7 @@ use Rattle.meta_file_reader.proofs.PartLaws.{ok_is}
 use Rattle.meta_file_reader.proofs.AllItems.{all_takes, all_fit, all_again}
 use Rattle.meta_file_reader.proofs.Stops.{all_stuck}
 use Rattle.meta_file_reader.proofs.KeyCount.{a_line_each}
-use Rattle.meta_file_reader.proofs.Clean.{spelled_is_utf8}
+use Rattle.meta_file_reader.proofs.FamilyClean.{spelled_is_utf8}
 
 -- as many lines of keywords as items that are read
 pub a_line_of_each : (ts : List Token) (ns : List ℕ) (is : List Item) → items_at (length ts) ts ≡ Ok is
@@ -60,18 +60,6 @@ refused_at text f r e is = record {
   line = is.line;
   found = is.found;
 }
-
--- the answer at a fault
-pub gives_refusal : {X : Type 0} (view : X → List Item) (text : List ℕ) (ts : List Token) (lines : List ℕ) (last : ℕ) (f : Fault)
-    (r : Refusal) → ts ≡ read_in text → lines ≡ read_lines text
-    → last ≡ text_last_line text → items_at (length ts) ts ≡ Err f → IsRefusalOf ts lines last f r
-    → GivesItems view text (Err (reads.Refused r)) (items_in text)
-gives_refusal {X} view text ts lines last f r t l e read is =
-    let here : items_in text ≡ Err f = subst (λ (us : List Token). items_at (length us) us ≡ Err f) t read in
-    let one : IsRefusalOf (read_in text) lines last f r = subst (λ (us : List Token). IsRefusalOf us lines last f r) t is in
-    let two : IsRefusalOf (read_in text) (read_lines text) last f r = subst (λ (ns : List ℕ). IsRefusalOf (read_in text) ns last f r) l one
-    in
-    (f, here, subst (λ (n : ℕ). IsRefusalOf (read_in text) (read_lines text) n f r) e two)
 
 -- of an answer that reading gives
 pub is_found : {X : Type 0} (view : X → List Item) (text : List ℕ) (answer : Result X ReadError)

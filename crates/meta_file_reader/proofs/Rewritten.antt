@@ -6,11 +6,14 @@ use Rattle.std.proofs.lemmas.Bool.{and_parts}
 use Rattle.meta_file_syntax.specs.declared.token.Token.{Token}
 use Rattle.meta_file_syntax.specs.declared.token.Token.TheVariants.{Key, Word, Quoted, Sign, Doc, Stray}
 use Rattle.meta_file_syntax.specs.Scan.{tokens_in}
-use Rattle.meta_file_syntax.specs.Squeezed.{is_comma, ends_first, squeezed, read_in}
+use Rattle.meta_file_syntax.specs.Squeezed.{is_comma, ends_first, squeezed, squeezed_in}
+use Rattle.meta_file_reader.specs.ReadIn.{read_in}
 use Rattle.meta_file_syntax.specs.Laid.{CanWrite, CanWriteAll}
 use Rattle.meta_file_syntax.specs.declared.items.Item.{Item}
 use Rattle.meta_file_syntax.specs.Spelling.{spelled_all}
-use Rattle.meta_file_reader.proofs.Clean.{is_clean, clean, of_all, spelled_is_utf8}
+use Rattle.meta_file_reader.proofs.Clean.{is_clean, clean, of_all}
+use Rattle.meta_file_reader.proofs.FamilyClean.{spelled_is_utf8}
+use Rattle.meta_file_reader.proofs.FamilyFine.{read_fine}
 use Rattle.meta_file_reader.proofs.LineLaws.{text_is}
 use Rattle.meta_file_reader.proofs.Writable.{Fine, AllFine, tokens_fine}
 
@@ -39,5 +42,6 @@ all_written (t ∷ ts) h c =
 pub writable : (text : List ℕ) (is : List Item) → read_in text ≡ spelled_all is → CanWriteAll (spelled_all is)
 writable text is e =
     let u : IsUtf8 text = spelled_is_utf8 text is e in
-    let read : squeezed (tokens_in text) ≡ spelled_all is = ap squeezed (sym (text_is text u)) ∙ e in
-    all_written (spelled_all is) (subst AllFine read (squeezed_fine (tokens_in text) (tokens_fine text u))) (of_all is)
+    let same : squeezed (tokens_in text) ≡ squeezed_in text = ap squeezed (sym (text_is text u)) in
+    let fine : AllFine (squeezed_in text) = subst AllFine same (squeezed_fine (tokens_in text) (tokens_fine text u)) in
+    all_written (spelled_all is) (subst AllFine e (read_fine text fine)) (of_all is)

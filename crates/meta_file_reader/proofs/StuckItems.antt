@@ -26,7 +26,7 @@ use Rattle.meta_file_reader.specs.Lists.{some_at, list_at}
 use Rattle.meta_file_reader.specs.SetReading.{part_number_at, high_at, span_at, members_at, part_at, set_at, wanted_colon, alias_at}
 use Rattle.meta_file_reader.specs.SetReading.{variable_at, type_item_at, type_at, enum_value_at, imm_enum_at, value_of_at, sort_at}
 use Rattle.meta_file_reader.specs.SetReading.{field_at, kind_item_at, designated_at, slot_at, slots_at, format_item_at, operand_at}
-use Rattle.meta_file_reader.specs.SetReading.{outputs_at, mark_at, marks_at, inputs_at, inst_item_at}
+use Rattle.meta_file_reader.specs.SetReading.{outputs_at, mark_at, marks_at, inputs_at, own_text_at, after_name, inst_item_at}
 use Rattle.meta_file_reader.specs.Reading.{bool_item_at, num_item_at, enum_item_at, preset_item_at, wanted_item, item_after, item_at}
 use Rattle.meta_file_reader.proofs.SetLaws.{span_takes, part_takes}
 use Rattle.meta_file_reader.proofs.KindLaws.{value_takes, slot_takes}
@@ -236,14 +236,28 @@ inputs_local =
     (list_local operand (operand_at wanted.OperandName) layouts.Parentheses (operand_takes wanted.OperandName) (λ p. omega arith)
     (separator_local layouts.Parentheses (λ e. absurd cc)) (operand_local wanted.OperandName (λ e. absurd cc)))))
 
+other_after_name : (ds : List (List ℕ)) (c : Option (List ℕ)) → Other (after_name ds c)
+other_after_name [] None e = absurd cc
+other_after_name [] (Some t) e = absurd cc
+other_after_name (d ∷ ds) c e = absurd cc
+
+own_text_local : {B : Type 0} (ds : List (List ℕ)) (f : Option (List ℕ) → List Token → Result (B × List Token) Fault)
+    → ((c : Option (List ℕ)) → Local (f c)) → Local (λ ts. f (own_text_at ds ts).0 (own_text_at ds ts).1)
+own_text_local [] f later = comment_local f later
+own_text_local (d ∷ ds) f later = later None
+
 inst_local : (ds : List (List ℕ)) → Local (inst_item_at ds)
 unfolding inst_item_at
 inst_local ds =
     local_bind _ _ (name_local wanted.InstName (λ e. absurd cc))
-    (λ n. sign_local (wanted.Sign 58) 58 _ (λ e. absurd cc)
+    (λ n. own_text_local ds (λ c us. sign_or_at (after_name ds c) 58 us >>= λ after. inputs_at after >>= λ is. outputs_at is.1
+    >>= λ os. marks_at os.1
+    >>= λ ms. Ok (record { docs = ds; name = n; text = c; format = is.0.0; inputs = is.0.1; outputs = os.0; marks = ms.0 }, ms.1))
+    (λ c. sign_local (after_name ds c) 58 _ (other_after_name ds c)
     (local_bind _ _ inputs_local
     (λ f. local_bind _ _ outputs_local
-    (λ os. made_local _ (λ ms. record { docs = ds; name = n; format = f.0; inputs = f.1; outputs = os; marks = ms }) marks_local))))
+    (λ os. made_local _ (λ ms. record { docs = ds; name = n; text = c; format = f.0; inputs = f.1; outputs = os; marks = ms })
+    marks_local)))))
 
 -- ---- settings
 

@@ -6,7 +6,8 @@ use Rattle.meta_file_syntax.specs.declared.token.Token.TheVariants.{Key, Word, Q
 use Rattle.meta_file_syntax.specs.declared.keyword.Keyword.{Keyword}
 use Rattle.meta_file_syntax.specs.Encoding.{text_tokens}
 use Rattle.meta_file_syntax.specs.Laid.{laid}
-use Rattle.meta_file_syntax.specs.Squeezed.{ends_first, squeezed, read_in}
+use Rattle.meta_file_syntax.specs.Squeezed.{ends_first, squeezed, squeezed_in, squeezed_lines_in}
+use Rattle.meta_file_reader.specs.ReadIn.{read_in}
 use Rattle.meta_file_syntax.specs.declared.name.Name.{Name}
 use Rattle.meta_file_syntax.specs.declared.name.Name.TheVariants as names
 use Rattle.meta_types.specs.declared.derived_func.DerivedFunc.{DerivedFunc}
@@ -34,7 +35,9 @@ use Rattle.meta_file_syntax.specs.Spelling.{span, part_members, set_part, set_ex
 use Rattle.meta_file_syntax.specs.Spelling.{operand}
 use Rattle.meta_file_syntax.specs.Spelling.{outputs, mark, mark_list, spelled, spelled_all}
 use Rattle.meta_file_syntax.specs.Words.{function_text, dimension_text, property_text}
+use Rattle.meta_file_families.specs.Families.{has_family}
 use Rattle.meta_file_reader.proofs.Bodies.{docs_of, keyword_of_item, body_of, in_parts}
+use Rattle.meta_file_reader.proofs.FamilyReading.{plain_tokens, no_family}
 
 -- these tokens stay, whatever comes after them
 abbrev Stay : List Token → Type 0
@@ -207,8 +210,9 @@ of_body (item.Inst i) =
     let operands = listed operand i.inputs ++ Sign 41 ∷ tail in
     let held : Stay operands = join (listed operand i.inputs) (Sign 41 ∷ tail) (of_operands i.inputs) (sign 41 tail refl
     (join (outputs i.outputs) (mark_list i.marks) (of_outputs i.outputs) (of_marks i.marks))) in
-    a_name i.name (Sign 58 ∷ Word i.format ∷ Sign 40 ∷ operands) (sign 58 (Word i.format ∷ Sign 40 ∷ operands) refl
-    (word i.format (Sign 40 ∷ operands) (sign 40 operands refl held)))
+    let body = Word i.format ∷ Sign 40 ∷ operands in
+    a_name i.name (comment i.text ++ Sign 58 ∷ body) (join (comment i.text) (Sign 58 ∷ body) (of_comment i.text)
+    (sign 58 body refl (word i.format (Sign 40 ∷ operands) (sign 40 operands refl held))))
 of_body (item.Group n) = a_name n [] nothing
 of_body (item.Bool i) =
     a_name i.name (Sign 61 ∷ truth i.default ∷ comment i.comment) (sign 61 (truth i.default ∷ comment i.comment) refl
@@ -239,4 +243,7 @@ all_stay [] = refl
 all_stay (i ∷ is) = item_stays i (spelled_all is) ∙ ap (λ (r : List Token). spelled i ++ r) (all_stay is)
 
 pub all_reads : (is : List Item) → text_tokens (laid (spelled_all is)) ≡ spelled_all is → read_in (laid (spelled_all is)) ≡ spelled_all is
-all_reads is e = ap squeezed e ∙ all_stay is
+all_reads is e =
+    let text = laid (spelled_all is) in
+    let read : squeezed_in text ≡ spelled_all is = ap squeezed e ∙ all_stay is in
+    plain_tokens (squeezed_in text) (squeezed_lines_in text) (ap has_family read ∙ no_family is) ∙ read

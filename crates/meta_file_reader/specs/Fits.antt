@@ -54,12 +54,18 @@ abbrev pub SlotsFit : List Slot → Type 0
 SlotsFit [] = Unit {0}
 SlotsFit (s ∷ ss) = FirstFits s × Every SlotFits (s ∷ ss)
 
+-- an instruction has no text after its name below documentation
+abbrev pub OneDoc : List (List ℕ) → Option (List ℕ) → Type 0
+OneDoc [] text = Unit {0}
+OneDoc (d ∷ ds) None = Unit {0}
+OneDoc (d ∷ ds) (Some t) = ⊥
+
 abbrev pub Fits : Item → Type 0
 Fits (item.Type i) = SetFits i.set
 Fits (item.Alias i) = Unit {0}
 Fits (item.Kind i) = Unit {0}
 Fits (item.Format i) = SlotsFit i.slots
-Fits (item.Inst i) = Unit {0}
+Fits (item.Inst i) = OneDoc i.docs i.text
 Fits (item.Group n) = Unit {0}
 Fits (item.Bool i) = Unit {0}
 Fits (item.Num i) = i.default < 2 ^ 8

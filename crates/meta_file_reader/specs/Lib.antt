@@ -3,6 +3,7 @@ pub mod Fits
 pub mod ItemLines
 pub mod Lists
 pub mod Parts
+pub mod ReadIn
 pub mod Reading
 pub mod Reason
 pub mod Refused

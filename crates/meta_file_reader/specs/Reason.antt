@@ -2,7 +2,7 @@
 use Rattle.std.specs.Prelude.{ℕ, ◌+◌, ◌/◌, ◌%◌, nat_le, nat_lt, ◌&&◌, List, [], ◌∷◌, ◌++◌, Option, Some, None, codes, if◌then◌else◌}
 use Rattle.meta_file_syntax.specs.Keywords.{keyword_text}
 use Rattle.meta_file_syntax.specs.declared.flaw.Flaw.{Flaw}
-use Rattle.meta_file_syntax.specs.declared.flaw.Flaw.TheVariants.{NoClosingQuote, BadEscape, LoneSlash, NotUtf8, StrayByte}
+use Rattle.meta_file_syntax.specs.declared.flaw.Flaw.TheVariants.{NoClosingQuote, BadEscape, LoneSlash, NotUtf8, LongFamilies, StrayByte}
 use Rattle.meta_file_syntax.specs.declared.token.Token.{Token}
 use Rattle.meta_file_syntax.specs.declared.token.Token.TheVariants.{Key, Word, Quoted, Sign, Doc, Stray}
 use Rattle.meta_file_reader.specs.declared.fault.Wanted.{Wanted}
@@ -44,6 +44,8 @@ wanted_text wanted.Mark = codes "terminates_block, branches, call, returns, can_
 wanted_text wanted.RustValue = codes "the value in Rust"
 wanted_text (wanted.Sign c) = back_quoted (c ∷ [])
 wanted_text wanted.ColonOrEquals = codes "`:` or `=`"
+wanted_text wanted.TextCommaOrColon = codes "a text, `,` or `:`"
+wanted_text wanted.CommaOrColon = codes "`,` or `:`"
 wanted_text wanted.Arrow = codes "`->`"
 wanted_text wanted.CommaOrClose = codes "`,` or `)`"
 wanted_text wanted.CommaOrBracket = codes "`,` or `]`"
@@ -60,6 +62,7 @@ flaw_text NoClosingQuote = codes "a text without its closing quote"
 flaw_text BadEscape = codes "after a backslash stands a quote, a backslash or n"
 flaw_text LoneSlash = codes "a comment begins with two slashes"
 flaw_text NotUtf8 = codes "the line is not UTF-8"
+flaw_text LongFamilies = codes "the families up to here, written out, have more than 4,194,304 bytes"
 flaw_text (StrayByte c) =
     if nat_le 32 c && nat_le c 126 then codes "a sign that no item has: " ++ c ∷ []
     else codes "a byte that no item has: 0x" ++ (hex_digit (c / 16) ∷ hex_digit (c % 16) ∷ [])

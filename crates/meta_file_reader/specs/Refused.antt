@@ -5,7 +5,7 @@ use Rattle.meta_file_syntax.specs.declared.token.Token.{Token}
 use Rattle.meta_file_syntax.specs.declared.token.Token.TheVariants.{Word}
 use Rattle.meta_file_syntax.specs.TokenLines.{line_at}
 use Rattle.meta_file_syntax.specs.Encoding.{text_last_line}
-use Rattle.meta_file_syntax.specs.Squeezed.{read_in, read_lines}
+use Rattle.meta_file_reader.specs.ReadIn.{read_in, read_lines}
 use Rattle.meta_file_syntax.specs.declared.items.Item.{Item}
 use Rattle.meta_file_syntax.specs.Spelling.{spelled_all}
 use Rattle.meta_file_syntax.specs.Words.{function_named}
@@ -78,9 +78,12 @@ pub record IsRefused (text : List ℕ) (r : Refusal) : Type 0 where
   pub line : r.line ≡ line_at (read_lines text) (text_last_line text) place
   pub found : r.found ≡ slice_get (read_in text) place
 
--- the items or the refusal that reading gives, unless memory ran out
+-- the items or the refusal that reading these tokens gives, unless memory ran out
+abbrev pub GivesOf : {X : Type 0} → (X → List Item) → List Token → List ℕ → ℕ → Result X ReadError → Result (List Item) Fault → Type 0
+GivesOf view tokens lines last (Ok x) read = read ≡ Ok (view x)
+GivesOf view tokens lines last (Err reads.Memory) read = Unit {0}
+GivesOf view tokens lines last (Err (reads.Refused r)) read = (f : Fault) × (read ≡ Err f) × IsRefusalOf tokens lines last f r
+
+-- .. of a text
 abbrev pub GivesItems : {X : Type 0} → (X → List Item) → List ℕ → Result X ReadError → Result (List Item) Fault → Type 0
-GivesItems view text (Ok x) read = read ≡ Ok (view x)
-GivesItems view text (Err reads.Memory) read = Unit {0}
-GivesItems view text (Err (reads.Refused r)) read = (f : Fault) × (read ≡ Err f)
-    × IsRefusalOf (read_in text) (read_lines text) (text_last_line text) f r
+GivesItems view text answer read = GivesOf view (read_in text) (read_lines text) (text_last_line text) answer read

@@ -1,5 +1,5 @@
 -- Reading types, kinds, formats and instructions off tokens.
-use Rattle.std.specs.Prelude.{ℕ, zero, suc, List, [], length, drop, Option}
+use Rattle.std.specs.Prelude.{ℕ, zero, suc, List, [], ◌∷◌, length, drop, Option}
 use Rattle.std.specs.Prelude.{Some, None}
 use Rattle.std.specs.Prelude.{Result, Ok, codes, if◌then◌else◌}
 use Rattle.meta_file_syntax.specs.declared.token.Token.{Token}
@@ -210,11 +210,33 @@ inputs_at ts = do
   is ← list_at (operand_at wanted.OperandName) layouts.Parentheses after
   Ok ((f.0, is.0), is.1)
 
+-- the text after the name of an instruction, if no documentation stands above
+abbrev pub own_text_at : List (List ℕ) → List Token → Option (List ℕ) × List Token
+own_text_at [] ts = comment_at ts
+own_text_at (d ∷ ds) ts = (None, ts)
+
+-- after a name stands `:`, or in a family `,`, or the text that may still come
+abbrev pub after_name : List (List ℕ) → Option (List ℕ) → Wanted
+after_name [] None = wanted.TextCommaOrColon
+after_name [] (Some t) = wanted.CommaOrColon
+after_name (d ∷ ds) text = wanted.CommaOrColon
+
 unfoldable pub inst_item_at : List (List ℕ) → List Token → Result (InstItem × List Token) Fault
 inst_item_at docs ts = do
   n ← name_at wanted.InstName ts
-  after ← sign_at 58 n.1
+  after ← sign_or_at (after_name docs (own_text_at docs n.1).0) 58 (own_text_at docs n.1).1
   is ← inputs_at after
   os ← outputs_at is.1
   ms ← marks_at os.1
-  Ok (record { docs = docs; name = n.0; format = is.0.0; inputs = is.0.1; outputs = os.0; marks = ms.0 }, ms.1)
+  Ok (
+    record {
+      docs = docs;
+      name = n.0;
+      text = (own_text_at docs n.1).0;
+      format = is.0.0;
+      inputs = is.0.1;
+      outputs = os.0;
+      marks = ms.0;
+    },
+    ms.1,
+  )

@@ -62,6 +62,10 @@ pub enum Wanted {
     Sign(u8),
     /// `:` or `=`.
     ColonOrEquals,
+    /// A text, `,` or `:`.
+    TextCommaOrColon,
+    /// `,` or `:`.
+    CommaOrColon,
     /// `->`.
     Arrow,
     /// `,` or `)`.

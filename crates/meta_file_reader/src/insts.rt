@@ -1,6 +1,7 @@
 ghost use Rattle.meta_file_syntax.specs.Words.{property_of};
 ghost use Rattle.meta_file_reader.specs.Parts.{Gives, chosen_at};
-ghost use Rattle.meta_file_reader.specs.SetReading.{outputs_at, marks_at, inputs_at, inst_item_at};
+ghost use Rattle.std.specs.Prelude.{◌≡◌, Ok};
+ghost use Rattle.meta_file_reader.specs.SetReading.{outputs_at, marks_at, inputs_at, own_text_at, after_name, inst_item_at};
 
 use super::fault::{Fault, PartError, Wanted};
 use super::lists::{Element, Layout, list, some};
@@ -104,6 +105,30 @@ fn inputs(
     Ok(((format, inputs), rest))
 }
 
+/// Reads the text after the name of an instruction, if there is one. Below documentation no text stands there.
+fn own_text<'t>(
+    alloc: Global,
+    docs: &Docs,
+    tokens: &'t [Token],
+) -> Result<(Option<Bytes>, &'t [Token]), PartError>
+    ensures { Gives (λ x. (x.0, x.1.now)) result (Ok (own_text_at docs.now tokens.now)) }
+{
+    if docs.as_slice().is_empty() {
+        return comment(alloc, tokens);
+    }
+    Ok((None, tokens))
+}
+
+/// What is wanted after the name of an instruction and its text.
+fn after_name(docs: &Docs, text: &Option<Bytes>) -> Wanted
+    ensures { result ≡ after_name docs.now text.now }
+{
+    if docs.as_slice().is_empty() && text.is_none() {
+        return Wanted::TextCommaOrColon;
+    }
+    Wanted::CommaOrColon
+}
+
 #[tactic(auto, unfolding(crate::specs::SetReading::inst_item_at))]
 pub(crate) fn inst_item(
     alloc: Global,
@@ -113,13 +138,15 @@ pub(crate) fn inst_item(
     ensures { Gives (λ x. (x.0, x.1.now)) result (inst_item_at docs tokens.now) }
 {
     let (name, rest) = name_of(alloc, tokens, Wanted::InstName)?;
-    let rest = after_sign(rest, b':')?;
+    let (text, rest) = own_text(alloc, &docs, rest)?;
+    let rest = after_sign_or(rest, b':', after_name(&docs, &text))?;
     let ((format, inputs), rest) = inputs(alloc, rest)?;
     let (outputs, rest) = outputs(alloc, rest)?;
     let (marks, rest) = marks(alloc, rest)?;
     let item = InstItem {
         docs,
         name,
+        text,
         format,
         inputs,
         outputs,

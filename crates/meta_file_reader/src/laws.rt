@@ -4,7 +4,7 @@ ghost use Rattle.meta_file_syntax.specs.declared.token.Token.{Token};
 ghost use Rattle.meta_file_syntax.specs.Scan.{tokens_in};
 ghost use Rattle.meta_file_syntax.specs.Encoding.{text_tokens};
 ghost use Rattle.meta_file_syntax.specs.Laid.{laid, CanWriteAll};
-ghost use Rattle.meta_file_syntax.specs.Squeezed.{read_in};
+ghost use Rattle.meta_file_reader.specs.ReadIn.{read_in};
 ghost use Rattle.meta_file_syntax.specs.Spelling.{spelled_all};
 ghost use Rattle.meta_file_syntax.specs.declared.items.Item.{Item};
 ghost use Rattle.meta_file_reader.specs.declared.fault.Fault.{Fault};

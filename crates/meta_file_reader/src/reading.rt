@@ -1,6 +1,7 @@
 ghost use Rattle.std.specs.Prelude.{◌≡◌, ◌++◌, ◌≤◌, List, length, slice_get, IfOk, OnOk, Ok, Err};
 ghost use Rattle.std.specs.Str.{IsUtf8};
-ghost use Rattle.meta_file_syntax.specs.Squeezed.{read_in, read_lines};
+ghost use Rattle.meta_file_families.specs.Families.{written_tokens, written_lines, last_tokens, last_lines};
+ghost use Rattle.meta_file_reader.specs.ReadIn.{last_items, read_in, read_lines};
 ghost use Rattle.meta_file_syntax.specs.Spelling.{spelled_all};
 ghost use Rattle.meta_file_syntax.specs.declared.items.Item.{Item};
 ghost use Rattle.meta_file_reader.specs.declared.fault.Refusal.{Refusal};
@@ -9,10 +10,11 @@ ghost use Rattle.meta_file_reader.specs.ItemLines.{key_line, key_lines};
 ghost use Rattle.meta_file_reader.specs.Parts.{Gives};
 ghost use Rattle.meta_file_reader.specs.Reading.{items_at};
 ghost use Rattle.meta_file_reader.specs.Fits.{AllFit};
-ghost use Rattle.meta_file_reader.specs.Refused.{IsRefusalOf, IsRefused, GivesItems, items_in};
+ghost use Rattle.meta_file_reader.specs.Refused.{IsRefusalOf, IsRefused, GivesOf, GivesItems, items_in};
 
 use super::fault::{Fault, PartError, ReadError, Refusal};
 use super::items::items;
+use meta_file_families::{has_family, with_last_names, written_out};
 use meta_file_syntax::{Item, Token, Tokens, tokens_of};
 use std::alloc::{AllocError, Global};
 
@@ -21,7 +23,7 @@ use std::alloc::{AllocError, Global};
 pub struct ReadItems {
     /// The items in order.
     pub items: Vec<Item>,
-    /// The line of each item, which is that of its keyword.
+    /// The line of each item, which is that of its keyword, or in a family that of its name.
     pub lines: Vec<usize>,
 }
 
@@ -85,25 +87,67 @@ fn items_of(alloc: Global, read: &Tokens) -> Result<ReadItems, PartError>
     })
 }
 
-/// The items of the text, or the refusal for its first fault.
-#[tactic(auto, using(crate::proofs::AllItems::left_fits, crate::proofs::Refusals::gives_refusal))]
-fn read_text(alloc: Global, text: &[u8]) -> Result<ReadItems, ReadError>
-    ensures lines { IfOk result (λ v. v.lines.items ≡ key_lines (read_in text.now) (read_lines text.now)) }
+/// The items of the tokens, or the refusal for their first fault.
+#[tactic(auto, using(crate::proofs::AllItems::left_fits))]
+fn read_tokens(alloc: Global, read: &Tokens) -> Result<ReadItems, ReadError>
+    requires { length read.now.lines.items ≡ length read.now.tokens.items }
+    ensures lines { IfOk result (λ v. v.lines.items ≡ key_lines read.now.tokens.items read.now.lines.items) }
     ensures each { IfOk result (λ v. length v.lines.items ≡ length v.items.items) }
-    ensures exact { GivesItems (λ v. v.items.items) text.now result (items_in text.now) }
+    ensures exact { GivesOf (λ v. v.items.items) read.now.tokens.items read.now.lines.items read.now.last_line result
+        (items_at (length read.now.tokens.items) read.now.tokens.items) }
 {
-    let read = tokens_of(alloc, text)?;
-    match items_of(alloc, &read) {
+    match items_of(alloc, read) {
         Ok(items) => Ok(items),
         Err(PartError::Fault(fault)) => {
-            let refusal = refusal_of(alloc, &read, fault)?;
+            let refusal = refusal_of(alloc, read, fault)?;
             Err(ReadError::Refused(refusal))
         }
         Err(PartError::Memory) => Err(ReadError::Memory),
     }
 }
 
-/// Reads the items of a text. The error is `Refused` exactly if the text isn't items, and names the first place where it goes wrong.
+/// The items of the tokens with the last name of each family alone, or the refusal for their first fault.
+fn read_last(alloc: Global, read: &Tokens) -> Result<ReadItems, ReadError>
+    requires { length read.now.lines.items ≡ length read.now.tokens.items }
+    ensures { GivesOf (λ v. v.items.items) (last_tokens read.now.tokens.items read.now.lines.items)
+        (last_lines read.now.tokens.items read.now.lines.items) read.now.last_line result
+        (last_items read.now.tokens.items read.now.lines.items) }
+{
+    let last = with_last_names(alloc, read)?;
+    read_tokens(alloc, &last)
+}
+
+/// The items of the tokens with each family written out, or the refusal for their first fault.
+fn read_written(alloc: Global, read: &Tokens) -> Result<ReadItems, ReadError>
+    requires { length read.now.lines.items ≡ length read.now.tokens.items }
+    ensures lines { IfOk result (λ v. v.lines.items ≡ key_lines (written_tokens read.now.tokens.items read.now.lines.items)
+        (written_lines read.now.tokens.items read.now.lines.items)) }
+    ensures each { IfOk result (λ v. length v.lines.items ≡ length v.items.items) }
+    ensures exact { GivesOf (λ v. v.items.items) (written_tokens read.now.tokens.items read.now.lines.items)
+        (written_lines read.now.tokens.items read.now.lines.items) read.now.last_line result
+        (items_at (length (written_tokens read.now.tokens.items read.now.lines.items))
+        (written_tokens read.now.tokens.items read.now.lines.items)) }
+{
+    let written = written_out(alloc, read)?;
+    read_tokens(alloc, &written)
+}
+
+/// The items of the text, or the refusal for its first fault. A text with families is refused as if each had its last name alone.
+fn read_text(alloc: Global, text: &[u8]) -> Result<ReadItems, ReadError>
+    ensures lines { IfOk result (λ v. v.lines.items ≡ key_lines (read_in text.now) (read_lines text.now)) }
+    ensures each { IfOk result (λ v. length v.lines.items ≡ length v.items.items) }
+    ensures exact { GivesItems (λ v. v.items.items) text.now result (items_in text.now) }
+{
+    let read = tokens_of(alloc, text)?;
+    if has_family(&read.tokens) {
+        read_last(alloc, &read)?;
+        return read_written(alloc, &read);
+    }
+    read_tokens(alloc, &read)
+}
+
+/// Reads the items of a text, each instruction of a family as an item of its own. The error is `Refused` exactly if the text isn't items, and
+/// names the first place where it goes wrong.
 pub fn read_items(alloc: Global, text: &[u8]) -> Result<ReadItems, ReadError>
     // The items that are read are spelled as the text is.
     ensures found { IfOk result (λ v. read_in text.now ≡ spelled_all v.items.items) }
@@ -111,7 +155,7 @@ pub fn read_items(alloc: Global, text: &[u8]) -> Result<ReadItems, ReadError>
     ensures fit { IfOk result (λ v. AllFit v.items.items) }
     // A text that isn't UTF-8 isn't items.
     ensures utf8 { IfOk result (λ _. IsUtf8 text.now) }
-    // Each item has the line of its keyword.
+    // Each item has the line of its keyword. In a family that is written out it stands in the line of the name.
     ensures lines { IfOk result (λ v. v.lines.items ≡ key_lines (read_in text.now) (read_lines text.now)) }
     ensures each { IfOk result (λ v. length v.lines.items ≡ length v.items.items) }
     // If the text is that of items that fit, it is read as these, unless memory runs out.

@@ -50,6 +50,8 @@ fn wanted_words(wanted: Wanted) -> &'static [u8]
         Wanted::RustValue => b"the value in Rust",
         Wanted::Sign(_) => b"a sign",
         Wanted::ColonOrEquals => b"`:` or `=`",
+        Wanted::TextCommaOrColon => b"a text, `,` or `:`",
+        Wanted::CommaOrColon => b"`,` or `:`",
         Wanted::Arrow => b"`->`",
         Wanted::CommaOrClose => b"`,` or `)`",
         Wanted::CommaOrBracket => b"`,` or `]`",
@@ -84,6 +86,11 @@ fn write_flaw(text: &mut Vec<u8>, flaw: Flaw) -> Result<(), AllocError>
         }
         Flaw::LoneSlash => text.extend_from_slice(b"a comment begins with two slashes"),
         Flaw::NotUtf8 => text.extend_from_slice(b"the line is not UTF-8"),
+        Flaw::LongFamilies => {
+            text.extend_from_slice(
+                b"the families up to here, written out, have more than 4,194,304 bytes",
+            )
+        }
         Flaw::StrayByte(byte) => {
             if matches!(byte, b' '..=b'~') {
                 text.extend_from_slice(b"a sign that no item has: ")?;

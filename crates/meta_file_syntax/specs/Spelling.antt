@@ -186,10 +186,11 @@ abbrev pub mark_list : Option (List Mark) → List Token
 mark_list None = []
 mark_list (Some ms) = Sign 91 ∷ (listed mark ms ++ Sign 93 ∷ [])
 
--- NAME ":" WORD "(" [operand {"," operand}] ")" ["->" operand {"," operand}] ["[" [mark {"," mark}] "]"]
+-- NAME [TEXT] ":" WORD "(" [operand {"," operand}] ")" ["->" operand {"," operand}] ["[" [mark {"," mark}] "]"]
 abbrev pub inst_item : InstItem → List Token
 inst_item i =
-    name i.name ∷ Sign 58 ∷ Word i.format ∷ Sign 40 ∷ (listed operand i.inputs ++ Sign 41 ∷ (outputs i.outputs ++ mark_list i.marks))
+    name i.name ∷ (comment i.text
+    ++ Sign 58 ∷ Word i.format ∷ Sign 40 ∷ (listed operand i.inputs ++ Sign 41 ∷ (outputs i.outputs ++ mark_list i.marks)))
 
 -- ---- settings
 

@@ -38,9 +38,9 @@ squeezed_lines (t ∷ ts) [] = []
 squeezed_lines (t ∷ ts) (n ∷ ns) = if is_comma t && ends_first ts then squeezed_lines ts ns else n ∷ squeezed_lines ts ns
 
 -- the tokens of a text, without such commas
-abbrev pub read_in : List ℕ → List Token
-read_in text = squeezed (text_tokens text)
+abbrev pub squeezed_in : List ℕ → List Token
+squeezed_in text = squeezed (text_tokens text)
 
 -- the line of each of them
-abbrev pub read_lines : List ℕ → List ℕ
-read_lines text = squeezed_lines (text_tokens text) (text_lines text)
+abbrev pub squeezed_lines_in : List ℕ → List ℕ
+squeezed_lines_in text = squeezed_lines (text_tokens text) (text_lines text)

@@ -9,6 +9,8 @@ pub enum Flaw {
     LoneSlash,
     /// A line isn't UTF-8.
     NotUtf8,
+    /// The families of a file, written out, are too long.
+    LongFamilies,
     /// A byte can't stand here: it isn't part of a word, a blank, a sign, a quote, a slash or a line end.
     StrayByte(u8),
 }

@@ -50,13 +50,16 @@ pub enum Mark {
     Second(TypeExpr),
 }
 
-/// An instruction: `inst NAME: WORD(OPERAND, OPERAND) -> OPERAND [MARK, MARK]`. The word is that of its format.
+/// An instruction: `inst NAME: WORD(OPERAND, OPERAND) -> OPERAND [MARK, MARK]`. The word is that of its format. A text may stand after the
+/// name, if no documentation stands above.
 #[derive(Drop)]
 pub struct InstItem {
     /// The lines of documentation above the instruction.
     pub docs: Docs,
     /// The name of the instruction.
     pub name: Name,
+    /// The text after the name, which documents the instruction, if there is one.
+    pub text: Option<Bytes>,
     /// The word of the instruction's format.
     pub format: Bytes,
     /// The inputs in order.

@@ -215,6 +215,7 @@ impl Speller {
         ensures { OnOk result (self.new.tokens.items ≡ self.old.tokens.items ++ inst_item item.now) }
     {
         item.name.add_to(self)?;
+        self.add_comment(&item.text)?;
         self.add(Token::Sign(b':'))?;
         self.add_word(item.format.as_slice())?;
         self.add(Token::Sign(b'('))?;

@@ -1,5 +1,5 @@
 ghost use Rattle.std.specs.Prelude.{◌≡◌, length, IfOk};
-ghost use Rattle.meta_file_syntax.specs.Squeezed.{read_in, read_lines};
+ghost use Rattle.meta_file_syntax.specs.Squeezed.{squeezed_in, squeezed_lines_in};
 ghost use Rattle.meta_file_syntax.specs.TokenLines.{line_at};
 ghost use Rattle.meta_file_syntax.specs.Encoding.{text_last_line};
 
@@ -22,9 +22,9 @@ pub struct Tokens {
 /// Reads the tokens of a text and their lines, without each comma directly before `)` or `]`. The first line that isn't UTF-8 is the flaw
 /// `NotUtf8`, which is the last token: nothing after it is read.
 pub fn tokens_of(alloc: Global, text: &[u8]) -> Result<Tokens, AllocError>
-    ensures tokens { IfOk result (λ v. v.tokens.items ≡ read_in text.now) }
+    ensures tokens { IfOk result (λ v. v.tokens.items ≡ squeezed_in text.now) }
     // Each token has the line in which it stands.
-    ensures lines { IfOk result (λ v. v.lines.items ≡ read_lines text.now) }
+    ensures lines { IfOk result (λ v. v.lines.items ≡ squeezed_lines_in text.now) }
     ensures last { IfOk result (λ v. v.last_line ≡ text_last_line text.now) }
     ensures each { IfOk result (λ v. length v.lines.items ≡ length v.tokens.items) }
 {

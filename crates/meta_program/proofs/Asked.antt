@@ -12,8 +12,8 @@ use Rattle.meta_program.specs.TablesIn.{BeginWithVersion}
 use Rattle.meta_program.specs.Plan.{AskForVersion, AskOfItself}
 use Rattle.meta_program.specs.declared.plan.Over.{Over}
 use Rattle.meta_program.specs.declared.plan.Over.TheVariants.{Shared, File}
-use Rattle.meta_program.proofs.OneOver.{dash, one_file}
-use Rattle.meta_program.proofs.Words.{letter}
+use Rattle.meta_program.proofs.OneOver.{begin_so, one_file}
+use Rattle.meta_program.proofs.Words.{letter, second_letter}
 
 -- if words ask nothing of a file, they ask for a version of tables themselves
 version_shared : (words asked : List (List ℕ)) (test : Bool) → asked ≡ words
@@ -26,12 +26,9 @@ version_shared words asked test same none h = (
 
 -- words that ask something of a file don't begin with `tables`
 no_version : (words : List (List ℕ)) (path : List ℕ) (asked : List (List ℕ)) → AskOverFile words path asked → BeginWithVersion words → ⊥
-no_version words path asked (inl (o, is, h)) v =
-    let clash : 116 ≡ 45 = sym (ap letter v.are) ∙ ap letter h ∙ dash o is in absurd (omega (arith, clash))
-no_version words path asked (inr (inl h)) v =
-    let clash : 116 ≡ 99 = sym (ap letter v.are) ∙ ap letter h.0 in absurd (omega (arith, clash))
-no_version words path asked (inr (inr h)) v =
-    let clash : 116 ≡ 99 = sym (ap letter v.are) ∙ ap letter h.0 in absurd (omega (arith, clash))
+no_version words path asked h v =
+    let tables : letter words ≡ 116 = ap letter v.are in
+    ⊎_elim (λ dash. omega (arith, tables, dash)) (λ check. omega (arith, tables, check)) (begin_so words path asked h)
 
 -- if they ask for a version, that is what they ask of the file
 version_of_file : (words : List (List ℕ)) (path : List ℕ) (asked : List (List ℕ)) → AskOverFile words path asked → AskForVersion words
@@ -47,11 +44,6 @@ version_over words (File path x) asked test h e t = (
   λ yes. inr (path.now, x.now, h, subst BeginWithVersion e (t.0 yes)),
   λ a. t.1 (subst BeginWithVersion (sym e) (version_of_file words path.now x.now h a)),
 )
-
-abbrev second_letter : List ℕ → ℕ
-second_letter [] = 0
-second_letter (a ∷ []) = 0
-second_letter (a ∷ b ∷ letters) = b
 
 -- no word asks for both
 not_both : (word : List ℕ) → IsHelp word → IsVersion word → ⊥

@@ -56,8 +56,10 @@ begins words first after name e at = same_Some name first (sym at ∙ ap (λ (ws
 first_word : (over : Over) (place : ℕ) (name : List ℕ) → IsTooMany over place → slice_get (asked_of over) 0 ≡ Some name
     → (name ≡ codes "check") ⊎ (name ≡ codes "tables")
 first_word (Shared words) place name (inl h) at = inl (begins words.now (codes "check") _ name h.1.are at)
-first_word (Shared words) place name (inr (is, inl h)) at = inl (begins words.now (codes "check") _ name h.are at)
-first_word (Shared words) place name (inr (is, inr h)) at = inr (begins words.now (codes "tables") _ name h.are at)
+first_word (Shared words) place name (inr (inl (is, inl h))) at = inl (begins words.now (codes "check") _ name h.are at)
+first_word (Shared words) place name (inr (inl (is, inr (inl h)))) at = inl (begins words.now (codes "check") _ name h.are at)
+first_word (Shared words) place name (inr (inl (is, inr (inr h)))) at = inr (begins words.now (codes "tables") _ name h.are at)
+first_word (Shared words) place name (inr (inr h)) at = inl (begins words.now (codes "check") _ name h.1.are at)
 first_word (File path words) place name (inl h) at = inl (begins words.now (codes "check") _ name h.1.are at)
 first_word (File path words) place name (inr h) at = inr (begins words.now (codes "tables") _ name h.1.are at)
 

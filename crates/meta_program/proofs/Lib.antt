@@ -19,6 +19,9 @@ mod NameLines
 mod ItemLines
 mod Asked
 mod Entries
+mod Fronts
+mod NoFile
+mod Controls
 mod NotWrong
 mod OnePlan
 mod OneWrong

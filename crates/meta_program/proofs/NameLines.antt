@@ -12,6 +12,7 @@ use Rattle.meta_rust_names.specs.declared.refused.RefusedName.{RefusedName}
 use Rattle.meta_rust_names.specs.AllRefused.{refused_names}
 use Rattle.meta_program.specs.File.{Declares}
 use Rattle.meta_program.proofs.Texts.{IsReadExactly, one_reading}
+use Rattle.meta_program.specs.ShownPath.{shown_path}
 use Rattle.meta_program.specs.Told.{why_said, told, AreTold}
 use Rattle.meta_program.specs.NamedItems.{NameHasItem, HasItsLine}
 use Rattle.meta_program.specs.declared.plan.Names.{Names}
@@ -25,9 +26,9 @@ line_there f (Some line) x e = (line, refl, same_Some (f line) x e)
 module _ (path : List ℕ) (names : Names) (text : List ℕ) (d : Declared) (messages : List (List ℕ))
     (t : AreTold path names text d messages) where
   line_of : (name : RefusedName) (message : List ℕ) → Contains (refused_names t.built) name → NameHasItem t.items t.built name
-      → told path names t.items t.lines name ≡ Some message → HasItsLine path names text d message
+      → told (shown_path path) names t.items t.lines name ≡ Some message → HasItsLine path names text d message
   line_of name message refused has e =
-      let f : ℕ → List ℕ = λ line. located path line (why_said names name) in
+      let f : ℕ → List ℕ = λ line. located (shown_path path) line (why_said names name) in
       let at : option_map f (slice_get t.lines has.place) ≡ Some message =
       ap (λ (o : Option ℕ). option_map f (option_and_then (slice_get t.lines) o)) (sym has.item) ∙ e in
       let found = line_there f (slice_get t.lines has.place) message at in
@@ -53,9 +54,9 @@ module _ (path : List ℕ) (names : Names) (text : List ℕ) (d : Declared) (mes
   message_line : (k : ℕ) (message : List ℕ) → All (NameHasItem t.items t.built) (refused_names t.built)
       → slice_get messages k ≡ Some message → HasItsLine path names text d message
   message_line k message all at =
-      let here : slice_get (map (told path names t.items t.lines) (refused_names t.built)) k ≡ Some (Some message) =
+      let here : slice_get (map (told (shown_path path) names t.items t.lines) (refused_names t.built)) k ≡ Some (Some message) =
       ap (λ (os : List (Option (List ℕ))). slice_get os k) (sym t.are) ∙ get_map (λ (m : List ℕ). Some m) messages k message at in
-      let from = get_mapped (told path names t.items t.lines) (refused_names t.built) k (Some message) here in
+      let from = get_mapped (told (shown_path path) names t.items t.lines) (refused_names t.built) k (Some message) here in
       let has = at_place (NameHasItem t.items t.built) (refused_names t.built) k from.0 all from.1 in
       line_of from.0 message (contained k from.0 from.1) has from.2
 

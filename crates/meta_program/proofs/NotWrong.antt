@@ -1,10 +1,12 @@
 -- If no case holds, nothing is wrong with the words.
-use Rattle.std.proofs.Common.{◌≡◌, ◌∙◌, ◌↔◌, ℕ, Bool, true, false, IsTrue, List, ◌∷◌, sym, ap, ap₂, subst}
+use Rattle.std.proofs.Common.{◌≡◌, ◌∙◌, ◌↔◌, inl, inr, ℕ, Bool, true, false, IsTrue, List, ◌∷◌, sym, ap, ap₂, subst}
+use Rattle.std.specs.Bool.{then_some}
 use Rattle.std.specs.Prelude.{codes, Option, None, Some, IfSome, IfNone}
 use Rattle.meta_table_text.specs.declared.version.Version.{Version}
 use Rattle.meta_program.specs.TablesIn.{version_word}
 use Rattle.meta_program.specs.declared.plan.Over.{Over}
-use Rattle.meta_program.specs.Wrong.{IsFileMissing, IsTooMany, NameNoVersion, BeginWithAsm, IsWrong, IsWrongIfAny}
+use Rattle.meta_program.specs.Wrong.{CheckMore, CheckRustMore, CheckEndMore, CheckRustEndMore, VersionMore, IsFileMissing}
+use Rattle.meta_program.specs.Wrong.{IsTooManyOfShared, IsTooMany, NameNoVersion, BeginWithAsm, IsWrong, IsWrongIfAny}
 use Rattle.meta_program.specs.Over.{asked_of}
 use Rattle.meta_program.specs.declared.wrong.Wrong.{Wrong}
 use Rattle.meta_program.specs.declared.wrong.Wrong.TheVariants.{FileMissing, WordTooMany, NoVersion, NoForm}
@@ -48,3 +50,19 @@ is_no_version words name option version after test e h none = (
       },
   λ n. h.1 (ap first (sym e ∙ n.begin.are), ap second (sym e ∙ n.begin.are)),
 )
+
+-- if none of the cases holds, no word is too many over the shared declarations
+pub none_too_many : (words : List (List ℕ)) (test : Bool) (place : Option ℕ) → place ≡ then_some test 4
+    → (IsTrue test ↔ CheckRustEndMore words) → (CheckMore words → ⊥) → (CheckRustMore words → ⊥) → (CheckEndMore words → ⊥)
+    → (VersionMore words → ⊥) → IfNone place ((k : ℕ) → IsTooManyOfShared words k → ⊥)
+none_too_many words true place e h no_more no_rust no_end no_version =
+    subst (λ (o : Option ℕ). IfNone o ((k : ℕ) → IsTooManyOfShared words k → ⊥)) (sym e) tt
+none_too_many words false place e h no_more no_rust no_end no_version =
+    subst (λ (o : Option ℕ). IfNone o ((k : ℕ) → IsTooManyOfShared words k → ⊥)) (sym e) by
+  where
+    by : (k : ℕ) → IsTooManyOfShared words k → ⊥
+    by k (inl g) = no_more g.1
+    by k (inr (inl (is, inl g))) = no_rust g
+    by k (inr (inl (is, inr (inl g)))) = no_end g
+    by k (inr (inl (is, inr (inr g)))) = no_version g
+    by k (inr (inr g)) = no_truth (h.1 g.1)

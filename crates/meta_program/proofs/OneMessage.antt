@@ -3,7 +3,7 @@ use Rattle.std.proofs.Common.{◌≡◌, inl, inr, ℕ, List, slice_get, Option,
 use Rattle.meta_types.specs.declared.fault.DefinitionError.{DefinitionError}
 use Rattle.meta_build.specs.AllDeclared.{Declared, HasFirstFault}
 use Rattle.meta_file_syntax.specs.Encoding.{text_last_line}
-use Rattle.meta_file_syntax.specs.Squeezed.{read_in, read_lines}
+use Rattle.meta_file_reader.specs.ReadIn.{read_in, read_lines}
 use Rattle.meta_file_syntax.specs.declared.items.Item.{Item}
 use Rattle.meta_file_reader.specs.declared.fault.Refusal.{Refusal}
 use Rattle.meta_file_reader.specs.Reason.{reason_of}
@@ -12,7 +12,7 @@ use Rattle.meta_file_declare.specs.AllItems.{Declares as DeclaresItems, IsFirstW
 use Rattle.meta_file_types.specs.declared.refused.Reason.{Reason}
 use Rattle.meta_file_load.specs.ItemWhy.{declare_why}
 use Rattle.meta_file_load.specs.Why.{fault_why, located}
-use Rattle.meta_program.specs.File.{AreReadOf, IsMessageOf, IsWrongMessage, IsFaultMessageOf, IsUnread, IsUndeclared, IsFaulty, IsRefusal}
+use Rattle.meta_program.specs.File.{AreReadOf, IsMessageOf, IsWrongMessage, IsFaultMessageOf, IsUnread, IsUndeclared, IsFaulty, SaysWhy}
 use Rattle.meta_program.proofs.Texts.{IsReadExactly, DeclareOne, DeclareNoneWhereWrong, read_as, one_reading}
 
 some_is : {A : Type 0} (o : Option A) (x y : A) → o ≡ Some x → o ≡ Some y → x ≡ y
@@ -103,7 +103,7 @@ module _ (exactly : IsReadExactly) (declare_one : DeclareOne) (right : DeclareNo
       let declares : DeclaresItems h.items g.declared = subst (λ (is : List Item). DeclaresItems is g.declared) items g.declares in
       right h.items g.declared h.tells.place h.tells.reason declares h.tells.wrong
 
-  pub one_message : (m n : List ℕ) → IsRefusal path text m → IsRefusal path text n → m ≡ n
+  pub one_message : (m n : List ℕ) → SaysWhy path text m → SaysWhy path text n → m ≡ n
   one_message m n (inl h) (inl g) = unread_one path text m n h g
   one_message m n (inl h) (inr (inl g)) = absurd (unread_never h g.read)
   one_message m n (inl h) (inr (inr g)) = absurd (unread_never h g.read)

@@ -2,7 +2,7 @@
 use Rattle.std.proofs.Common.{◌≡◌, ℕ, List, [], refl, sym, subst, ap, ap₂}
 use Rattle.std.specs.Prelude.{Option, None, Some}
 use Rattle.meta_command_line.specs.declared.asked.Asked.TheVariants as asks
-use Rattle.meta_program.specs.Over.{AskOverFile, IsOver, path_of, asked_of}
+use Rattle.meta_program.specs.Over.{AskOverFile, IsOver, path_of, asked_of, input_path}
 use Rattle.meta_program.specs.Tool.{AreToolWords}
 use Rattle.meta_program.specs.declared.plan.Over.{Over}
 use Rattle.meta_program.specs.declared.plan.Over.TheVariants as of_over
@@ -11,7 +11,7 @@ use Rattle.meta_program.specs.Names.{check_words}
 use Rattle.meta_program.specs.declared.plan.Names.{Names}
 use Rattle.meta_program.specs.Plan.{AskOfItself, IsPlan, IsNoCheck, Planned, planned}
 use Rattle.meta_program.specs.declared.plan.Plan.{Plan}
-use Rattle.meta_program.specs.declared.plan.Plan.TheVariants.{Help, Version, Shared, File, Check, Nothing}
+use Rattle.meta_program.specs.declared.plan.Plan.TheVariants.{Help, Version, Shared, File, Check, CheckInput, Nothing}
 use Rattle.meta_program.proofs.Asked.{one_asked}
 use Rattle.meta_program.proofs.OneOver.{one_file, same_over}
 
@@ -21,6 +21,7 @@ itself words Version h = h
 itself words (Shared t) h = h.0
 itself words (File p t) h = h.0
 itself words (Check p n) h = h.0
+itself words (CheckInput n) h = h.0
 itself words (Nothing o w) h = h.0
 
 abbrev shared : Tool → Planned
@@ -61,18 +62,21 @@ module _ (one_tool : (t u : Tool) (words : List (List ℕ)) → AreToolWords t w
       by Help (Shared u) h g e = absurd (cc)
       by Help (File q u) h g e = absurd (cc)
       by Help (Check q m) h g e = absurd (cc)
+      by Help (CheckInput m) h g e = absurd (cc)
       by Help (Nothing o w) h g e = absurd (cc)
       by Version Help h g e = absurd (cc)
       by Version Version h g e = refl
       by Version (Shared u) h g e = absurd (cc)
       by Version (File q u) h g e = absurd (cc)
       by Version (Check q m) h g e = absurd (cc)
+      by Version (CheckInput m) h g e = absurd (cc)
       by Version (Nothing o w) h g e = absurd (cc)
       by (Shared t) Help h g e = absurd (cc)
       by (Shared t) Version h g e = absurd (cc)
       by (Shared t) (Shared u) h g e = ap shared (one_tool t u words h.1 g.1)
       by (Shared t) (File q u) h g e = absurd (h.2 _ _ g.2)
       by (Shared t) (Check q m) h g e = absurd (h.2 _ _ g.1)
+      by (Shared t) (CheckInput m) h g e = absurd (h.2 _ _ g.1)
       by (Shared t) (Nothing o w) h g e =
           absurd (g.2 (t, subst (λ (ws : List (List ℕ)). AreToolWords t ws) (sym (nothing_of_shared o h.2 g.1)) h.1))
       by (File p t) Help h g e = absurd (cc)
@@ -82,6 +86,7 @@ module _ (one_tool : (t u : Tool) (words : List (List ℕ)) → AreToolWords t w
           let same = one_file words _ _ _ _ h.2 g.2 in
           ap₂ of_file same.0 (one_tool t u h.1 h.3 (subst (λ (ws : List (List ℕ)). AreToolWords u ws) (sym same.1) g.3))
       by (File p t) (Check q m) h g e = absurd (h.4 m (one_file words _ _ _ _ h.2 g.1).1)
+      by (File p t) (CheckInput m) h g e = absurd (h.4 m (one_file words _ _ _ _ h.2 g.1).1)
       by (File p t) (Nothing o w) h g e =
           absurd (g.2 (t, subst (λ (ws : List (List ℕ)). AreToolWords t ws) (sym (nothing_of_file _ _ o h.2 g.1).1) h.3))
       by (Check p n) Help h g e = absurd (cc)
@@ -90,7 +95,16 @@ module _ (one_tool : (t u : Tool) (words : List (List ℕ)) → AreToolWords t w
       by (Check p n) (File q u) h g e = absurd (g.4 n (one_file words _ _ _ _ g.2 h.1).1)
       by (Check p n) (Check q m) h g e =
           let same = one_file words _ _ _ _ h.1 g.1 in ap₂ over_words (ap Some same.0) same.1
+      by (Check p n) (CheckInput m) h g e = absurd (h.2 (one_file words _ _ _ _ h.1 g.1).0)
       by (Check p n) (Nothing o w) h g e = absurd (no_check o _ n g.3 g.1 h.1)
+      by (CheckInput n) Help h g e = absurd (cc)
+      by (CheckInput n) Version h g e = absurd (cc)
+      by (CheckInput n) (Shared u) h g e = absurd (g.2 _ _ h.1)
+      by (CheckInput n) (File q u) h g e = absurd (g.4 n (one_file words _ _ _ _ g.2 h.1).1)
+      by (CheckInput n) (Check q m) h g e = absurd (g.2 (one_file words _ _ _ _ g.1 h.1).0)
+      by (CheckInput n) (CheckInput m) h g e =
+          let same = one_file words _ _ _ _ h.1 g.1 in ap₂ over_words (ap Some same.0) same.1
+      by (CheckInput n) (Nothing o w) h g e = absurd (no_check o _ n g.3 g.1 h.1)
       by (Nothing o w) Help h g e = absurd (cc)
       by (Nothing o w) Version h g e = absurd (cc)
       by (Nothing o w) (Shared u) h g e =
@@ -98,4 +112,5 @@ module _ (one_tool : (t u : Tool) (words : List (List ℕ)) → AreToolWords t w
       by (Nothing o w) (File q u) h g e =
           absurd (h.2 (u, subst (λ (ws : List (List ℕ)). AreToolWords u ws) (sym (nothing_of_file _ _ o g.2 h.1).1) g.3))
       by (Nothing o w) (Check q m) h g e = absurd (no_check o _ m h.3 h.1 g.1)
+      by (Nothing o w) (CheckInput m) h g e = absurd (no_check o _ m h.3 h.1 g.1)
       by (Nothing o w) (Nothing r x) h g e = let same = same_over words o r h.1 g.1 in ap₂ over_words same.0 same.1

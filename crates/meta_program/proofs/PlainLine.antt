@@ -28,18 +28,25 @@ name_is (w ∷ words) name word at is = sym (same_Some _ _ at) ∙ is
 missing_is : (words : List (List ℕ)) (line word : List ℕ) → SaysFileMissing words line → first words ≡ word → line ≡ missing_text word
 missing_is words line word h is = h.is ∙ ap missing_text (name_is words h.name word h.first is)
 
+missing_check : (words : List (List ℕ)) (line : List ℕ) → SaysFileMissing words line → first words ≡ codes "check" → IsPlain line
+missing_check words line h is =
+    plain_line (missing_text (codes "check")) line refl (missing_is words line (codes "check") h is)
+
 pub missing_plain : (words : List (List ℕ)) (line : List ℕ) → MissFile words → SaysFileMissing words line → IsPlain line
 missing_plain words line (inl (option, inl is, e)) h =
     plain_line (missing_text (codes "-d")) line refl (missing_is words line (codes "-d") h (ap first e ∙ is))
 missing_plain words line (inl (option, inr is, e)) h =
     plain_line (missing_text (codes "--declarations")) line refl (missing_is words line (codes "--declarations") h (ap first e ∙ is))
-missing_plain words line (inr e) h =
-    plain_line (missing_text (codes "check")) line refl (missing_is words line (codes "check") h (ap first e))
+missing_plain words line (inr (inl e)) h = missing_check words line h (ap first e)
+missing_plain words line (inr (inr (inl e))) h = missing_check words line h (ap first e)
+missing_plain words line (inr (inr (inr e))) h = missing_check words line h (ap first e)
 
 -- there is a first word
 pub missing_within : (words : List (List ℕ)) → MissFile words → 0 < length words
 missing_within words (inl (option, is, e)) = omega (arith, ap length e)
-missing_within words (inr e) = omega (arith, ap length e)
+missing_within words (inr (inl e)) = omega (arith, ap length e)
+missing_within words (inr (inr (inl e))) = omega (arith, ap length e)
+missing_within words (inr (inr (inr e))) = omega (arith, ap length e)
 
 pub missed : (over : Over) → IsFileMissing over → MissFile (asked_of over)
 missed (Shared words) h = h

@@ -2,14 +2,14 @@
 use Rattle.std.proofs.Common.{◌≡◌, ◌↔◌, inl, inr, ℕ, List, Ok, sym, ◌∙◌, subst}
 use Rattle.meta_types.specs.declared.fault.DefinitionError.{DefinitionError}
 use Rattle.meta_build.specs.AllDeclared.{Declared, HasFirstFault, AreValid}
-use Rattle.meta_file_syntax.specs.Squeezed.{read_in}
+use Rattle.meta_file_reader.specs.ReadIn.{read_in}
 use Rattle.meta_file_syntax.specs.Spelling.{spelled_all}
 use Rattle.meta_file_syntax.specs.declared.items.Item.{Item}
 use Rattle.meta_file_reader.specs.Fits.{AllFit}
 use Rattle.meta_file_reader.specs.Refused.{items_in}
 use Rattle.meta_file_declare.specs.AllItems.{Declares as DeclaresItems, IsFirstWrong}
 use Rattle.meta_file_types.specs.declared.refused.Reason.{Reason}
-use Rattle.meta_program.specs.File.{Reads, Declares, AreReadOf, IsWrongMessage, IsRefusal}
+use Rattle.meta_program.specs.File.{Reads, Declares, AreReadOf, IsWrongMessage, SaysWhy, IsRefusal}
 
 -- the law on the reader: it reads a text as items exactly if they fit and its tokens are theirs
 abbrev pub IsReadExactly : Type 0
@@ -51,8 +51,8 @@ not_refused exactly declare_one right no_fault path text message d (inr (inr fau
     let is = declare_one faulty.items d faulty.declared (subst (λ (js : List Item). DeclaresItems js d) same h.declared) faulty.declares in
     no_fault faulty.declared faulty.fault (subst AreValid is valid) faulty.first
 
--- a text is refused if it reads as items of which one is wrong
+-- a message says why a text is refused if the text reads as items of which one is wrong
 pub is_undeclared : (path text : List ℕ) (items : List Item) (lines : List ℕ) → AreReadOf text items lines → (message : List ℕ)
-    → IsWrongMessage path items lines message → IsRefusal path text message
+    → IsWrongMessage path items lines message → SaysWhy path text message
 is_undeclared path text items lines read message tells =
     inr (inl (record { items = items; lines = lines; read = read; tells = tells }))

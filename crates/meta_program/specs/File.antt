@@ -5,7 +5,7 @@ use Rattle.std.specs.Prelude.{◌≡◌, ◌⊎◌, ℕ, List, Err, slice_get, S
 use Rattle.meta_types.specs.declared.fault.DefinitionError.{DefinitionError}
 use Rattle.meta_build.specs.AllDeclared.{Declared, HasFirstFault}
 use Rattle.meta_file_syntax.specs.Encoding.{text_last_line}
-use Rattle.meta_file_syntax.specs.Squeezed.{read_in, read_lines}
+use Rattle.meta_file_reader.specs.ReadIn.{read_in, read_lines}
 use Rattle.meta_file_syntax.specs.declared.items.Item.{Item}
 use Rattle.meta_file_syntax.specs.Spelling.{spelled_all}
 use Rattle.meta_file_reader.specs.declared.fault.Refusal.{Refusal}
@@ -19,6 +19,7 @@ use Rattle.meta_file_declare.specs.Places.{place_of_fault}
 use Rattle.meta_file_types.specs.declared.refused.Reason.{Reason}
 use Rattle.meta_file_load.specs.ItemWhy.{declare_why}
 use Rattle.meta_file_load.specs.Why.{fault_why, located}
+use Rattle.meta_program.specs.ShownPath.{shown_path}
 
 -- the text reads as these items: each of them fits, and the tokens of the text are those that spell them, one item after the other
 pub record Reads (text : List ℕ) (items : List Item) : Type 0 where
@@ -36,7 +37,7 @@ pub record AreReadOf (text : List ℕ) (items : List Item) (lines : List ℕ) : 
   pub reads : Reads text items
   pub standing : lines ≡ key_lines (read_in text) (read_lines text)
 
--- ---- messages
+-- ---- messages, after the path as it is shown
 
 -- the message says what is wrong with the item at a place, with its line
 pub record IsMessageOf (path lines : List ℕ) (place : ℕ) (reason : Reason) (message : List ℕ) : Type 0 where
@@ -88,6 +89,10 @@ pub record IsFaulty (path text message : List ℕ) : Type 0 where
   pub first : HasFirstFault declared fault
   pub tells : IsFaultMessageOf path items lines fault message
 
--- why the text is refused, for one of these three reasons
+-- the message says why the text is refused, for one of these three reasons
+abbrev pub SaysWhy : List ℕ → List ℕ → List ℕ → Type 0
+SaysWhy path text message = IsUnread path text message ⊎ (IsUndeclared path text message ⊎ IsFaulty path text message)
+
+-- the same for a file at this path, which the message shows
 abbrev pub IsRefusal : List ℕ → List ℕ → List ℕ → Type 0
-IsRefusal path text message = IsUnread path text message ⊎ (IsUndeclared path text message ⊎ IsFaulty path text message)
+IsRefusal path text message = SaysWhy (shown_path path) text message

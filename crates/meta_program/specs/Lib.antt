@@ -12,6 +12,7 @@ pub mod Names
 pub mod Checked
 pub mod CheckAnswers
 pub mod Plan
+pub mod ShownPath
 pub mod Telling
 pub mod Trouble
 pub mod Wrong

@@ -23,6 +23,7 @@ use Rattle.meta_rust_names.specs.declared.refused.RefusedName.{RefusedName}
 use Rattle.meta_rust_names.specs.AllRefused.{refused_names}
 use Rattle.meta_program.specs.File.{AreReadOf}
 use Rattle.meta_program.specs.Places.{place_of_name}
+use Rattle.meta_program.specs.ShownPath.{shown_path}
 use Rattle.meta_program.specs.Told.{why_said}
 use Rattle.meta_program.specs.declared.plan.Names.{Names}
 
@@ -94,4 +95,4 @@ pub record HasItsLine (path : List ℕ) (names : Names) (text : List ℕ) (d : D
   pub has : NameHasItem items built name
   pub line : ℕ
   pub stands : slice_get lines has.place ≡ Some line
-  pub is : message ≡ located path line (why_said names name)
+  pub is : message ≡ located (shown_path path) line (why_said names name)

@@ -13,6 +13,7 @@ use Rattle.meta_rust_names.specs.declared.refused.RefusedName.{RefusedName}
 use Rattle.meta_rust_names.specs.AllRefused.{refused_names}
 use Rattle.meta_program.specs.File.{AreReadOf}
 use Rattle.meta_program.specs.Places.{place_of_name}
+use Rattle.meta_program.specs.ShownPath.{shown_path}
 use Rattle.meta_program.specs.declared.plan.Names.{Names}
 use Rattle.meta_program.specs.declared.plan.Names.TheVariants.{Warn, Refuse}
 
@@ -21,7 +22,7 @@ abbrev pub why_said : Names → RefusedName → List ℕ
 why_said Warn name = codes "warning: " ++ refused_text name
 why_said Refuse name = refused_text name
 
--- the message: which part of the item in its line has a name that Rust refuses, and why
+-- the message, after the path as it is shown: which part of the item in its line has a name that Rust refuses, and why
 abbrev pub told : List ℕ → Names → List Item → List ℕ → RefusedName → Option (List ℕ)
 told path names items lines name =
     option_map (λ line. located path line (why_said names name)) (option_and_then (slice_get lines) (place_of_name items name))
@@ -41,4 +42,4 @@ pub record AreTold (path : List ℕ) (names : Names) (text : List ℕ) (d : Decl
   pub built : BuiltDeclarations
   pub are_built : AreBuilt built
   pub of : built.declared ≡ d
-  pub are : map Some messages ≡ map (told path names items lines) (refused_names built)
+  pub are : map Some messages ≡ map (told (shown_path path) names items lines) (refused_names built)

@@ -1,5 +1,5 @@
 -- Why a file wasn't read whole.
---     trouble_text trouble path     the text on it
+--     trouble_text trouble path     the text on it, after the path as it is shown
 use Rattle.std.specs.Prelude.{ℕ, List, ◌++◌, Option, None, Some, codes}
 use Rattle.meta_program.specs.declared.file_run.FileEnding.{FileEnding}
 use Rattle.meta_program.specs.declared.file_run.FileEnding.TheVariants.{Ran, NamesRefused, Refused, FileFault, FileTooLong}
@@ -14,7 +14,7 @@ trouble_of (Refused message) = None
 trouble_of FileFault = Some Unread
 trouble_of FileTooLong = Some TooLong
 
--- the text on it
+-- the text on it, after the path as it is shown
 abbrev pub trouble_text : FileTrouble → List ℕ → List ℕ
 trouble_text Missing path = path ++ codes " is missing"
 trouble_text Forbidden path = path ++ codes " may not be read"

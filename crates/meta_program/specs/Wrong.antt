@@ -8,21 +8,24 @@ use Rattle.meta_command_line.specs.declared.manual.CommandForm.{CommandForm}
 use Rattle.meta_table_text.specs.declared.version.Version.{Version}
 use Rattle.meta_program.specs.declared.plan.Over.{Over}
 use Rattle.meta_program.specs.declared.plan.Over.TheVariants.{Shared, File}
-use Rattle.meta_program.specs.Over.{IsOption, asked_of, rust_word}
+use Rattle.meta_program.specs.Names.{rust_word}
+use Rattle.meta_program.specs.Over.{IsOption, asked_of, end_word}
 use Rattle.meta_program.specs.TablesIn.{version_word, BeginWithVersion}
 use Rattle.meta_program.specs.Tool.{AskSomething}
 use Rattle.meta_program.specs.declared.wrong.Wrong.{Wrong}
 use Rattle.meta_program.specs.declared.wrong.Wrong.TheVariants.{FileMissing, WordTooMany, NoVersion, NoForm}
 
--- a file is missing: `-d` or `--declarations` alone, or `check --rust`
+-- a file is missing: `-d` or `--declarations` alone, or `check` with no more than options: `check --rust`, `check --`, `check --rust --`
 abbrev pub MissFile : List (List ℕ) → Type 0
 MissFile words = ((option : List ℕ) × IsOption option × (words ≡ option ∷ []))
-    ⊎ (words ≡ codes "check" ∷ (rust_word ∷ []))
+    ⊎ ((words ≡ codes "check" ∷ (rust_word ∷ []))
+    ⊎ ((words ≡ codes "check" ∷ (end_word ∷ [])) ⊎ (words ≡ codes "check" ∷ (rust_word ∷ (end_word ∷ [])))))
 
 -- a check of a file, and a word more: `check FILE WORD ..`
 pub record CheckMore (words : List (List ℕ)) : Type 0 where
   pub path : List ℕ
   pub not_rust : path ≢ rust_word
+  pub not_end : path ≢ end_word
   pub word : List ℕ
   pub after : List (List ℕ)
   pub are : words ≡ codes "check" ∷ (path ∷ (word ∷ after))
@@ -30,9 +33,23 @@ pub record CheckMore (words : List (List ℕ)) : Type 0 where
 -- the same, and names are refused: `check --rust FILE WORD ..`
 pub record CheckRustMore (words : List (List ℕ)) : Type 0 where
   pub path : List ℕ
+  pub not_end : path ≢ end_word
   pub word : List ℕ
   pub after : List (List ℕ)
   pub are : words ≡ codes "check" ∷ (rust_word ∷ (path ∷ (word ∷ after)))
+
+-- the same after `--`: `check -- FILE WORD ..`, and `check --rust -- FILE WORD ..`
+pub record CheckEndMore (words : List (List ℕ)) : Type 0 where
+  pub path : List ℕ
+  pub word : List ℕ
+  pub after : List (List ℕ)
+  pub are : words ≡ codes "check" ∷ (end_word ∷ (path ∷ (word ∷ after)))
+
+pub record CheckRustEndMore (words : List (List ℕ)) : Type 0 where
+  pub path : List ℕ
+  pub word : List ℕ
+  pub after : List (List ℕ)
+  pub are : words ≡ codes "check" ∷ (rust_word ∷ (end_word ∷ (path ∷ (word ∷ after))))
 
 -- the same for a file that is named before: `check --rust WORD ..`
 pub record RustMore (words : List (List ℕ)) : Type 0 where
@@ -47,11 +64,19 @@ pub record VersionMore (words : List (List ℕ)) : Type 0 where
   pub after : List (List ℕ)
   pub are : words ≡ codes "tables" ∷ (codes "--version" ∷ (version_word version ∷ (word ∷ after)))
 
--- the word at this place, from 0, is the first that is too many after a check or tables in a version
+-- the word at this place, from 0, is the first that is too many after a check of a file, or tables in a version
+abbrev pub IsTooManyOfShared : List (List ℕ) → ℕ → Type 0
+IsTooManyOfShared words place = ((place ≡ 2) × CheckMore words)
+    ⊎ (((place ≡ 3) × (CheckRustMore words ⊎ (CheckEndMore words ⊎ VersionMore words)))
+    ⊎ ((place ≡ 4) × CheckRustEndMore words))
+
+-- the same for words that are asked over a file which is named before
+abbrev pub IsTooManyOfFile : List (List ℕ) → ℕ → Type 0
+IsTooManyOfFile words place = ((place ≡ 2) × RustMore words) ⊎ ((place ≡ 3) × VersionMore words)
+
 abbrev pub IsTooMany : Over → ℕ → Type 0
-IsTooMany (Shared words) place = ((place ≡ 2) × CheckMore words.now)
-    ⊎ ((place ≡ 3) × (CheckRustMore words.now ⊎ VersionMore words.now))
-IsTooMany (File path words) place = ((place ≡ 2) × RustMore words.now) ⊎ ((place ≡ 3) × VersionMore words.now)
+IsTooMany (Shared words) place = IsTooManyOfShared words.now place
+IsTooMany (File path words) place = IsTooManyOfFile words.now place
 
 -- `tables --version` and a word that is no version
 pub record NameNoVersion (words : List (List ℕ)) : Type 0 where

@@ -5,6 +5,7 @@ ghost use Rattle.meta_run.specs.declared.ending.Ending.TheVariants.{OutOfMemory}
 ghost use Rattle.meta_program.specs.Tool.{AreToolWords};
 ghost use Rattle.meta_program.specs.File.{Declares};
 ghost use Rattle.meta_program.specs.FileRun.{file_code, DidText, DidFile, AnswersFile, RunsFile};
+ghost use Rattle.meta_program.specs.ShownPath.{shown_path};
 ghost use Rattle.meta_program.specs.Trouble.{trouble_of, trouble_text};
 ghost use Rattle.meta_program.specs.Checked.{DidCheckText, DidCheck};
 ghost use Rattle.meta_program.specs.CheckAnswers.{AnswersCheck, RunsCheck};
@@ -12,6 +13,7 @@ ghost use Rattle.meta_program.specs.declared.file_run.FileEnding.TheVariants.{Ra
 
 use super::laws::{a_text_declares_one_thing, one_tool};
 use super::loading::{LoadError, load};
+use super::paths::shown_path;
 use super::plan::Names;
 use super::told::names_told;
 use super::tool::{Tool, run_check};
@@ -93,11 +95,18 @@ impl FileTrouble {
         }
     }
 
-    /// The line on it: the path, which may have any bytes, and why.
-    pub fn line(self, alloc: Global, path: &Text) -> Result<String, AllocError>
+    /// The line on it: the path, as `shown_path` shows it, and why.
+    pub fn line(self, alloc: Global, path: &str) -> Result<String, AllocError>
+        ensures { IfOk result (λ line. string_bytes line ≡ trouble_text self (shown_path path.now)) }
+    {
+        let shown = shown_path(alloc, path)?;
+        self.line_after(alloc, &shown)
+    }
+
+    /// The line on it after this path, as it is shown.
+    fn line_after(self, alloc: Global, path: &str) -> Result<String, AllocError>
         ensures { IfOk result (λ line. string_bytes line ≡ trouble_text self path.now) }
     {
-        let path = path.as_str();
         match self {
             FileTrouble::Missing => format!(in alloc; "{path} is missing"),
             FileTrouble::Forbidden => format!(in alloc; "{path} may not be read"),
@@ -111,7 +120,7 @@ impl FileTrouble {
 fn run_over<S: Source, K: Sink>(
     alloc: Global,
     tool: Tool,
-    path: &[u8],
+    path: &str,
     text: &[u8],
     source: &mut S,
     sink: &mut K,
@@ -131,7 +140,7 @@ fn run_over<S: Source, K: Sink>(
 fn run_read<F: Source, S: Source, K: Sink>(
     alloc: Global,
     tool: Tool,
-    path: &[u8],
+    path: &str,
     file: &mut F,
     source: &mut S,
     sink: &mut K,
@@ -157,7 +166,7 @@ fn run_read<F: Source, S: Source, K: Sink>(
 pub fn run_tool<F: Source, S: Source, K: Sink>(
     alloc: Global,
     tool: Tool,
-    path: &[u8],
+    path: &str,
     file: &mut F,
     source: &mut S,
     sink: &mut K,
@@ -175,7 +184,7 @@ pub fn run_tool<F: Source, S: Source, K: Sink>(
 fn attempt<F: Source, S: Source, K: Sink>(
     alloc: Global,
     words: &[Text],
-    path: &[u8],
+    path: &str,
     file: &mut F,
     source: &mut S,
     sink: &mut K,
@@ -198,7 +207,7 @@ fn attempt<F: Source, S: Source, K: Sink>(
 pub fn run_file<F: Source, S: Source, K: Sink>(
     alloc: Global,
     words: &[Text],
-    path: &[u8],
+    path: &str,
     file: &mut F,
     source: &mut S,
     sink: &mut K,
@@ -248,7 +257,7 @@ impl Checked {
 /// Checks valid declarations that a text makes: counts them, unless their names have the file refused.
 fn check_declared<S: Source, K: Sink>(
     alloc: Global,
-    path: &[u8],
+    path: &str,
     names: Names,
     text: &[u8],
     declarations: &Declarations,
@@ -278,7 +287,7 @@ fn check_declared<S: Source, K: Sink>(
 
 fn check_text<S: Source, K: Sink>(
     alloc: Global,
-    path: &[u8],
+    path: &str,
     names: Names,
     text: &[u8],
     source: &mut S,
@@ -298,7 +307,7 @@ fn check_text<S: Source, K: Sink>(
 
 fn check_read<F: Source, S: Source, K: Sink>(
     alloc: Global,
-    path: &[u8],
+    path: &str,
     names: Names,
     file: &mut F,
     source: &mut S,
@@ -325,7 +334,7 @@ fn check_read<F: Source, S: Source, K: Sink>(
 /// the count, which is written. Memory may run out at any point. `FileTooLong` comes exactly if the file gave more than 1,048,576 bytes.
 pub fn check_file<F: Source, S: Source, K: Sink>(
     alloc: Global,
-    path: &[u8],
+    path: &str,
     names: Names,
     file: &mut F,
     source: &mut S,

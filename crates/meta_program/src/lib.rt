@@ -9,6 +9,7 @@
 mod file_run;
 mod laws;
 mod loading;
+mod paths;
 mod plan;
 mod told;
 mod tool;
@@ -22,7 +23,8 @@ pub use laws::{
     one_text_of_a_version, one_tool, one_wrong,
 };
 pub use loading::{LoadError, load};
-pub use plan::{Names, Over, Plan, is_check, is_option, is_rust};
+pub use paths::shown_path;
+pub use plan::{Names, Over, Plan, is_check, is_end, is_input, is_option, is_rust, path_in};
 pub use told::names_told;
 pub use tool::{Tool, about, is_asm, run_check, run_words};
 pub use tool_list::{COMMANDS, listed_tools};

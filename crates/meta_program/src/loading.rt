@@ -5,10 +5,12 @@ ghost use Rattle.meta_file_declare.specs.AllItems.{Declares as DeclaresItems};
 ghost use Rattle.meta_file_declare.specs.Faults.{HasItsItem};
 ghost use Rattle.meta_file_reader.specs.Reason.{reason_of};
 ghost use Rattle.meta_file_load.specs.Why.{located};
-ghost use Rattle.meta_program.specs.File.{AreReadOf, IsMessageOf, IsWrongMessage, IsFaultMessageOf, Declares, IsUnread, IsRefusal};
+ghost use Rattle.meta_program.specs.File.{AreReadOf, IsMessageOf, IsWrongMessage, IsFaultMessageOf, Declares, IsUnread};
+ghost use Rattle.meta_program.specs.File.{SaysWhy, IsRefusal};
 ghost use Rattle.meta_program.specs.declared.loading.LoadError.TheVariants as errors;
 
 use super::laws::a_text_declares_one_thing;
+use super::paths::shown_path;
 use meta_build::{Declarations, build_all};
 use meta_file_declare::{DeclareError, declare, faults_have_their_items, place_of_fault};
 use meta_file_load::{declare_why, fault_why, located};
@@ -141,11 +143,11 @@ fn fault_in(
     }
 }
 
-/// The declarations of a text, which are valid.
+/// The declarations of a text, which are valid. The path is as a message shows it.
 fn loaded(alloc: Global, path: &[u8], text: &[u8]) -> Result<Declarations, LoadError>
     ensures declared { IfOk result (Declares text.now) }
     ensures valid { IfOk result AreValid }
-    ensures refused { (message : List ℕ) → result ≡ Err (errors.Refused message) → IsRefusal path.now text.now message }
+    ensures refused { (message : List ℕ) → result ≡ Err (errors.Refused message) → SaysWhy path.now text.now message }
 {
     let items = items_in(alloc, path, text)?;
     let declarations = declared_by(alloc, path, &items)?;
@@ -161,8 +163,8 @@ fn loaded(alloc: Global, path: &[u8], text: &[u8]) -> Result<Declarations, LoadE
 
 /// Makes the declarations of a text. They are valid. The text is refused exactly if it reads as no items, or an item declares nothing, or
 /// the declarations have a fault. The message says which of these comes first, with its line. The path stands before the line in the
-/// message. `Memory` may come in any case.
-pub fn load(alloc: Global, path: &[u8], text: &[u8]) -> Result<Declarations, LoadError>
+/// message, as `shown_path` shows it. `Memory` may come in any case.
+pub fn load(alloc: Global, path: &str, text: &[u8]) -> Result<Declarations, LoadError>
     // The declarations that the text makes.
     ensures declared { IfOk result (Declares text.now) }
     ensures valid { IfOk result AreValid }
@@ -172,5 +174,6 @@ pub fn load(alloc: Global, path: &[u8], text: &[u8]) -> Result<Declarations, Loa
     ensures only { (d : Declared) (message : List ℕ) → Declares text.now d → AreValid d → ¬ (result ≡ Err (errors.Refused message)) }
 {
     a_text_declares_one_thing();
-    loaded(alloc, path, text)
+    let shown = shown_path(alloc, path)?;
+    loaded(alloc, shown.as_bytes(), text)
 }

@@ -7,6 +7,7 @@ ghost use Rattle.meta_program.specs.Places.{setting_of, setting_after, place_in_
 ghost use Rattle.meta_program.specs.Told.{why_said, told, HasLine, AreTold};
 
 use super::loading::line_of;
+use super::paths::shown_path;
 use super::plan::Names;
 use meta_build::{Built, Declarations, build_all, one_first_fault};
 use meta_file_declare::laid_setting;
@@ -129,7 +130,7 @@ fn why_said(alloc: Global, names: Names, name: &RefusedName) -> Result<String, A
     }
 }
 
-/// The message of a name, which an item declares.
+/// The message of a name, which an item declares. The path is as a message shows it.
 fn told(
     alloc: Global,
     path: &[u8],
@@ -185,7 +186,7 @@ fn items_of(alloc: Global, text: &[u8]) -> Result<ReadItems, AllocError>
 /// The messages of the names of what is built of the declarations that a text makes. The text is read only if there are such names.
 fn told_of(
     alloc: Global,
-    path: &[u8],
+    path: &str,
     names: Names,
     text: &[u8],
     built: &Built<'_>,
@@ -201,15 +202,16 @@ fn told_of(
     }
     what_is_read();
     let items = items_of(alloc, text)?;
-    all_told(alloc, path, names, &items, &refused)
+    let shown = shown_path(alloc, path)?;
+    all_told(alloc, shown.as_bytes(), names, &items, &refused)
 }
 
 /// Makes the messages, in order, of all names that Rust refuses in the valid declarations that a text makes. A message is `PATH:LINE: WHY`,
-/// without a line feed, with the line of the item that declares what has the name (`names_have_their_items`). In a warning, `warning: `
-/// stands before WHY.
+/// without a line feed, with the path as `shown_path` shows it, and the line of the item that declares what has the name
+/// (`names_have_their_items`). In a warning, `warning: ` stands before WHY.
 pub fn names_told(
     alloc: Global,
-    path: &[u8],
+    path: &str,
     names: Names,
     text: &[u8],
     declarations: &Declarations,

@@ -5,12 +5,12 @@ ghost use Rattle.meta_table_text.specs.declared.version.Version as spec_version;
 ghost use Rattle.meta_program.specs.Over.{asked_of};
 ghost use Rattle.meta_program.specs.TablesIn.{version_word};
 ghost use Rattle.meta_program.specs.Tool.{AskSomething};
-ghost use Rattle.meta_program.specs.Wrong.{MissFile, CheckMore, CheckRustMore, RustMore, VersionMore, IsTooMany, NameNoVersion};
-ghost use Rattle.meta_program.specs.Wrong.{BeginWithAsm, IsFileMissing, IsWrong, IsWrongIfAny, AskWhatIsListed};
+ghost use Rattle.meta_program.specs.Wrong.{MissFile, CheckMore, CheckRustMore, CheckEndMore, CheckRustEndMore, RustMore, VersionMore};
+ghost use Rattle.meta_program.specs.Wrong.{IsTooMany, NameNoVersion, BeginWithAsm, IsFileMissing, IsWrong, IsWrongIfAny, AskWhatIsListed};
 ghost use Rattle.meta_program.specs.Wrong.{SaysFileMissing, SaysTooMany, Says, IsWrongLine};
 ghost use Rattle.meta_program.specs.declared.wrong.Wrong as spec;
 
-use super::plan::{Over, are_for_version, is_check, is_option, is_rust};
+use super::plan::{Over, are_for_version, is_check, is_end, is_option, is_rust};
 use super::tool::is_asm;
 use meta_command_line::{CommandForm, usage_line};
 use meta_types::Text;
@@ -42,7 +42,8 @@ fn miss_file(words: &[Text]) -> bool
 {
     match words {
         [option] => is_option(option),
-        [name, rust] => is_check(name) && is_rust(rust),
+        [name, option] => is_check(name) && (is_rust(option) || is_end(option)),
+        [name, rust, end] => is_check(name) && is_rust(rust) && is_end(end),
         _ => false,
     }
 }
@@ -52,7 +53,7 @@ fn are_check_more(words: &[Text]) -> bool
     ensures { IsTrue result ↔ CheckMore words.now }
 {
     match words {
-        [name, path, _word, _after @ ..] => is_check(name) && !is_rust(path),
+        [name, path, _word, _after @ ..] => is_check(name) && !is_rust(path) && !is_end(path),
         _ => false,
     }
 }
@@ -62,7 +63,31 @@ fn are_check_rust_more(words: &[Text]) -> bool
     ensures { IsTrue result ↔ CheckRustMore words.now }
 {
     match words {
-        [name, rust, _path, _word, _after @ ..] => is_check(name) && is_rust(rust),
+        [name, rust, path, _word, _after @ ..] => {
+            is_check(name) && is_rust(rust) && !is_end(path)
+        }
+        _ => false,
+    }
+}
+
+/// Whether the words are a check of a file after `--`, and more.
+fn are_check_end_more(words: &[Text]) -> bool
+    ensures { IsTrue result ↔ CheckEndMore words.now }
+{
+    match words {
+        [name, end, _path, _word, _after @ ..] => is_check(name) && is_end(end),
+        _ => false,
+    }
+}
+
+/// Whether the words are a check that refuses names of a file after `--`, and more.
+fn are_check_rust_end_more(words: &[Text]) -> bool
+    ensures { IsTrue result ↔ CheckRustEndMore words.now }
+{
+    match words {
+        [name, rust, end, _path, _word, _after @ ..] => {
+            is_check(name) && is_rust(rust) && is_end(end)
+        }
         _ => false,
     }
 }
@@ -145,10 +170,10 @@ fn too_many(over: &Over<'_>) -> Option<usize>
             if are_check_more(words) {
                 return Some(2);
             }
-            if are_check_rust_more(words) || are_version_more(words) {
+            if are_check_rust_more(words) || are_check_end_more(words) || are_version_more(words) {
                 return Some(3);
             }
-            None
+            are_check_rust_end_more(words).then_some(4)
         }
         Over::File(_, words) => {
             if are_rust_more(words) {

@@ -1,17 +1,20 @@
 use super::declared::Declared;
 use meta_file_syntax::Bytes;
-use meta_program::{FileEnding, Names, Over, check_file, run_file, run_words};
+use meta_program::{
+    FileEnding, Names, Over, Plan, check_file, listed_tools, run_file, run_words, shown_path,
+    wrong_line,
+};
 use meta_text::{MemorySink, MemorySource, ReadOutcome, Source};
 use meta_types::Text;
 use rows_base::{
-    Answer, Case, Outside, Trouble, add_held, texts_of_words, write_bytes, write_ended,
+    Answer, Case, Outside, Trouble, add_held, decoded, texts_of_words, write_bytes, write_ended,
 };
 use sha2::{Digest, Sha256};
 use std::alloc::{AllocError, Global};
 use std::io::{self, Write};
 use std::{fs, str};
 
-pub(crate) const PATH: &[u8] = b"FILE";
+pub(crate) const PATH: &str = "FILE";
 
 /// The SHA-256 of bytes, in hexadecimal digits.
 pub(crate) fn sum_of(alloc: Global, bytes: &[u8]) -> Result<String, AllocError> {
@@ -154,7 +157,7 @@ pub(crate) fn write_over(alloc: Global, case: &mut Case<'_>) -> Answer {
             asked
         }
         Over::File(path, asked) => {
-            case.field("file ", &path.as_str());
+            case.field("file ", &path);
             asked
         }
     };
@@ -164,5 +167,39 @@ pub(crate) fn write_over(alloc: Global, case: &mut Case<'_>) -> Answer {
         case.item(start, word.as_str());
     }
     case.letter(']');
+    Ok(())
+}
+
+/// Writes what the words that are left ask for, or the line that says what is wrong with them.
+pub(crate) fn write_plan(alloc: Global, case: &mut Case<'_>) -> Answer {
+    let words = texts_of_words(alloc, case.rest())?;
+    match Plan::of(&words) {
+        Plan::Help => case.text("help"),
+        Plan::Version => case.text("version"),
+        Plan::Shared(_) => case.text("shared"),
+        Plan::File(path, _) => case.field("file ", &path),
+        Plan::Check(path, names) => {
+            case.debugged(&names);
+            case.field(" file ", &path);
+        }
+        Plan::CheckInput(names) => {
+            case.debugged(&names);
+            case.text(" input");
+        }
+        Plan::Nothing(over, wrong) => {
+            let line = wrong_line(alloc, listed_tools(), &over, wrong)?;
+            case.field("wrong: ", &line);
+        }
+    }
+    Ok(())
+}
+
+/// Writes a path as a message shows it.
+pub(crate) fn write_path(alloc: Global, case: &mut Case<'_>) -> Answer {
+    let path = decoded(alloc, case.word())?;
+    let Ok(path) = str::from_utf8(&path) else {
+        return Err(Trouble::NoCase);
+    };
+    case.text(&shown_path(alloc, path)?);
     Ok(())
 }

@@ -79,7 +79,7 @@ fn line_count(text: &[u8]) -> usize {
 
 /// The number of the line in a message, which begins with the path.
 fn line_in(message: &[u8]) -> Result<usize, Trouble> {
-    let Some(after) = message.strip_prefix(PATH) else {
+    let Some(after) = message.strip_prefix(PATH.as_bytes()) else {
         return Err(Trouble::NoCase);
     };
     let Ok(after) = str::from_utf8(after) else {

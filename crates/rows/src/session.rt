@@ -1,4 +1,4 @@
-use super::asking::{Ran, sum_of, write_over};
+use super::asking::{Ran, sum_of, write_over, write_path, write_plan};
 use super::declared::{Declared, ask_declared, declared_by};
 use super::describing::write_synths;
 use super::each::{Each, write_loads};
@@ -30,8 +30,9 @@ const ROOM: usize = 1_048_576;
 /// **What is asked.** `WORDS`, or `WORDS < BYTES` with bytes after the input, writes in one line how a run of the words ends: its status,
 /// what it writes, with escapes, and what it writes on standard error. `run WORDS` writes what the run writes, also on standard error, and
 /// then the status. `sum WORDS` writes the SHA-256 of what the run writes in place of that, and `against NAME WORDS` how that compares with
-/// what a file holds. `over WORDS` writes what words are asked over, and `digest` the SHA-256 of the input. `unfailing WORDS` writes the
-/// status of a run over the shared declarations whose source and sink never fail. `write` writes the input.
+/// what a file holds. `over WORDS` writes what words are asked over, and `plan WORDS` what the program does for them, or what it says is wrong
+/// with them. `path BYTES` writes a path as messages show it, and `digest` the SHA-256 of the input. `unfailing WORDS` writes the status of a
+/// run over the shared declarations whose source and sink never fail. `write` writes the input.
 ///
 /// `fronts` loads each front of the text of the file, and `changes BITS` the text with each byte changed. `synths COUNT` describes the
 /// declarations that are made from numbers.
@@ -318,6 +319,8 @@ impl<'d> Session<'d> {
                 case.close(asked);
             }
             "over" => write_over(alloc, case)?,
+            "plan" => write_plan(alloc, case)?,
+            "path" => write_path(alloc, case)?,
             "digest" => case.text(sum_of(alloc, &self.input)?.as_str()),
             "unfailing" => write_unfailing(alloc, self.shared, self.input_with(after)?, case)?,
             "fronts" => write_loads(alloc, &self.text, Each::Front, case)?,

@@ -52,10 +52,13 @@ function! s:Item(group, keywords, contains) abort
   call s:Part(a:group . 'Name', 'isaName', '\k\+', [], a:contains)
 endfunction
 
+" The names of a family after the first
+syntax match isaName /\k\+/ contained
+
 call s:Item('isaType', 'type', ['isaSet', 'isaMeaning'])
 call s:Item('isaKind', 'kind', ['isaSort'])
 call s:Item('isaFormat', 'format', ['isaSlots'])
-call s:Item('isaInst', 'inst', ['isaSignature'])
+call s:Item('isaInst', 'inst', ['isaName', 'isaSignature'])
 call s:Item('isaGroup', 'group', [])
 call s:Item('isaSetting', 'bool num', ['isaDefault'])
 call s:Item('isaNames', 'enum preset', ['isaMembers'])
@@ -97,7 +100,7 @@ call s:Part('isaSlot', 'isaGiven', s:Any('value'), ['/,/me=s-1'], [])
 call s:Part('isaSlot', 'isaSpan', s:Any('none'), ['/,/me=s-1'], [])
 syntax keyword isaSlotWord contained designated
 
-" inst NAME: WORD(OPERANDS) -> OPERANDS [MARKS]
+" inst NAME TEXT, NAME TEXT: WORD(OPERANDS) -> OPERANDS [MARKS]
 call s:Part('isaSignature', 'NONE', ':', [], ['isaStored'])
 call s:Part('isaStored', 'isaUsed', '\k\+', [], ['isaInputs', 'isaOutputs', 'isaMarks'])
 call s:Part('isaInputs', 'NONE', '(', ['/)/'], ['isaOperand', 'isaOperandType'])

@@ -1,7 +1,7 @@
 use Rattle.std.proofs.Common.{◌≡◌, ◌∙◌, Some, ap, sym}
 use Rattle.std.proofs.lemmas.Bool.{false≢true}
 use Rattle.meta_file_syntax.specs.Laid.{laid}
-use Rattle.meta_file_syntax.specs.Squeezed.{read_in}
+use Rattle.meta_file_reader.specs.ReadIn.{read_in}
 use Rattle.meta_file_syntax.specs.Spelling.{spelled_all}
 use Rattle.meta_file_describe.specs.SettingItems.{items_of_groups}
 use Rattle.meta_file_describe.proofs.SettingsDescribed.{found, not_nothing, no_instructions}

@@ -1,6 +1,12 @@
 use Rattle.meta_program.specs.declared.plan.Over.TheVariants.{File}
 use Rattle.meta_program.proofs.NotWrong.{wrong_if_any}
+use Rattle.std.proofs.Common.{ℕ, List, subst}
+use Rattle.meta_program.specs.Over.{AskOverFile}
 use Rattle.meta_program.proofs.plan.Plan.over_file.Goals as goal
+
+pub of_check-requires-clause-over : goal.of_check-requires-clause-over
+of_check-requires-clause-over c =
+    subst (λ (asked : List (List ℕ)). AskOverFile c.args._words.now c.args.path.now asked) c.in-Some.ensures.some c.requires.over
 
 pub returns-in-Some-parse : goal.returns-in-Some-parse
 returns-in-Some-parse c =

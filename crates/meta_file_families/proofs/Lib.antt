@@ -1,0 +1,3 @@
+mod HeadLoop
+mod MembersLoop
+mod StepLoop

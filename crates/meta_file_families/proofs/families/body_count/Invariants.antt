@@ -1,0 +1,7 @@
+use Rattle.std.proofs.Common.{◌≡◌, ◌+◌, drop}
+use Rattle.meta_file_families.specs.Families.{body_count}
+use Rattle.meta_file_families.proofs.families.body_count.Given as goal
+
+-- those so far, and those that are left, are all
+abbrev pub invariant-loop-count : goal.invariant-loop-count
+invariant-loop-count l = l.count + body_count (drop l.count l.placed) ≡ body_count l.placed
