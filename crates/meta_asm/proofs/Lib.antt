@@ -12,6 +12,8 @@ mod WordLemmas
 mod LineLemmas
 mod WrittenLemmas
 mod ReaderLemmas
+mod FilledLemmas
+mod UnreadLemmas
 mod ListingLemmas
 mod MeaningLemmas
 mod OneOutput

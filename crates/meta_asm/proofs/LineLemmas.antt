@@ -190,27 +190,32 @@ shown_word true (Some c) None h = refl
 shown_word false (Some c) None h = refl
 shown_word leaves_out (Some c) (Some d) h = refl
 
-pub shown_states : (leaves_out : Bool) (a : Application) (line : List ℕ) → CanApply a → IsPlain a.name → 0 < length a.name
-    → line ≡ join_with_byte 32 (codes "line" ∷ a.name ∷ unwrap_or (control_written leaves_out a.control a.second) (codes "-") ∷ codes "-"
-    ∷ list_text (map value_text a.values) ∷ []) → IsStatement line (OfApplication (shown leaves_out a))
-shown_states leaves_out a line can plain some is =
-    let b = shown leaves_out a in
-    let is_can = shown_can leaves_out a can in
+-- the line of an application
+pub line_states : (b : Application) (line : List ℕ) → CanApply b → IsPlain b.name → 0 < length b.name
+    → line ≡ join_with_byte 32 (codes "line" ∷ b.name ∷ control_text b.control b.second ∷ list_text (map typed_text b.results)
+    ∷ list_text (map value_text b.values) ∷ []) → IsStatement line (OfApplication b)
+line_states b line can plain some is =
     let cw = control_text b.control b.second in
-    let vw = list_text (map value_text a.values) in
-    let words : line ≡ join_with_byte 32 (codes "line" ∷ a.name ∷ cw ∷ codes "-" ∷ vw ∷ []) = is
-    ∙ ap (λ w. join_with_byte 32 (codes "line" ∷ a.name ∷ w ∷ codes "-" ∷ vw ∷ []))
-    (shown_word leaves_out a.control a.second can.after) in
-    let lack : All (Lacks 32) (codes "line" ∷ a.name ∷ cw ∷ codes "-" ∷ vw ∷ []) =
-    All-cons (Lacks 32) (codes "line") (a.name ∷ cw ∷ codes "-" ∷ vw ∷ []) line_lacks
-    (All-cons (Lacks 32) a.name (cw ∷ codes "-" ∷ vw ∷ []) plain.space
-    (All-cons (Lacks 32) cw (codes "-" ∷ vw ∷ []) (controls_lack 32 spaces b.control b.second is_can.control is_can.second)
-    (All-cons (Lacks 32) (codes "-") (vw ∷ []) (dash_lacks 32 spaces)
-    (All-cons (Lacks 32) vw [] (values_word_lacks 32 spaces a.values can.values) (All-nil (Lacks 32)))))) in
-    states_application line a.name cw (codes "-") vw b is_can (ap (pieces_of 32) words
-    ∙ pieces_of-join 32 (codes "line") (a.name ∷ cw ∷ codes "-" ∷ vw ∷ []) lack) some refl refl refl refl
+    let rw' = list_text (map typed_text b.results) in
+    let vw = list_text (map value_text b.values) in
+    let lack : All (Lacks 32) (codes "line" ∷ b.name ∷ cw ∷ rw' ∷ vw ∷ []) =
+    All-cons (Lacks 32) (codes "line") (b.name ∷ cw ∷ rw' ∷ vw ∷ []) line_lacks
+    (All-cons (Lacks 32) b.name (cw ∷ rw' ∷ vw ∷ []) plain.space
+    (All-cons (Lacks 32) cw (rw' ∷ vw ∷ []) (controls_lack 32 spaces b.control b.second can.control can.second)
+    (All-cons (Lacks 32) rw' (vw ∷ []) (results_word_lacks 32 spaces b.results can.results)
+    (All-cons (Lacks 32) vw [] (values_word_lacks 32 spaces b.values can.values) (All-nil (Lacks 32)))))) in
+    states_application line b.name cw rw' vw b can (ap (pieces_of 32) is
+    ∙ pieces_of-join 32 (codes "line") (b.name ∷ cw ∷ rw' ∷ vw ∷ []) lack) some refl refl refl refl
   where
     line_lacks : Lacks 32 (codes "line")
     line_lacks = All-cons (λ b. b ≢ 32) 108 (105 ∷ 110 ∷ 101 ∷ []) (omega arith)
         (All-cons (λ b. b ≢ 32) 105 (110 ∷ 101 ∷ []) (omega arith)
         (All-cons (λ b. b ≢ 32) 110 (101 ∷ []) (omega arith) (All-cons (λ b. b ≢ 32) 101 [] (omega arith) (All-nil (λ b. b ≢ 32)))))
+
+pub shown_states : (leaves_out : Bool) (a : Application) (line : List ℕ) → CanApply a → IsPlain a.name → 0 < length a.name
+    → line ≡ join_with_byte 32 (codes "line" ∷ a.name ∷ unwrap_or (control_written leaves_out a.control a.second) (codes "-") ∷ codes "-"
+    ∷ list_text (map value_text a.values) ∷ []) → IsStatement line (OfApplication (shown leaves_out a))
+shown_states leaves_out a line can plain some is =
+    line_states (shown leaves_out a) line (shown_can leaves_out a can) plain some (is
+    ∙ ap (λ w. join_with_byte 32 (codes "line" ∷ a.name ∷ w ∷ codes "-" ∷ list_text (map value_text a.values) ∷ []))
+    (shown_word leaves_out a.control a.second can.after))

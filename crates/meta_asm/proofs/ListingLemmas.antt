@@ -18,6 +18,9 @@ use Rattle.meta_asm.specs.Short.{short_text}
 use Rattle.meta_asm.specs.Manners.{IsMannerIn}
 use Rattle.meta_asm.specs.Reading.{Manners, IsShort, IsShortIn}
 use Rattle.meta_asm.specs.Listing.{text_of_lines, filled, AreShort, AreShortForms, AddsShortForm, AddsLine, IsFirstUnread}
+use Rattle.meta_asm.specs.Unread.{IsUnreadFor, IsToldUnread}
+use Rattle.meta_asm.specs.Why.{IsFoundUnread}
+use Rattle.meta_asm.specs.declared.listing.Unread.{Unread}
 use Rattle.meta_asm.proofs.ReaderLemmas.{right_line}
 
 -- one line more, after the others
@@ -163,19 +166,15 @@ module _ (tables : TableContents) where
     out_is = is ∙ text_more h.lines line out h.out_is;
   }
 
-  -- the next reads as no line
-  pub first_unread : (texts : List (List ℕ)) (n : ℕ) (env : Environment) (text out : List ℕ) → AreRead texts n env out
-      → slice_get texts n ≡ Some text → text ≢ [] → ((line : List ℕ) → IsShortIn tables env line text → ⊥)
-      → IsFirstUnread (AllowedReply tables) (IsMannerIn tables) texts n
-  first_unread texts n env text out h at some none = record {
-    text = text;
-    at = at;
-    some = some;
-    lines = h.lines;
-    before = env;
-    reads = h.reads;
-    unread = none;
-  }
+  -- the next reads as no line: it is the first such text, after what leads to the environment
+  pub first_unread : (texts : List (List ℕ)) (n : ℕ) (env env' : Environment) (text out : List ℕ) → AreRead texts n env out
+      → slice_get texts n ≡ Some text → text ≢ [] → env' ≡ env → ((line : List ℕ) → IsShortIn tables env line text → ⊥)
+      → (first : IsFirstUnread (AllowedReply tables) (IsMannerIn tables) texts n) × (first.text ≡ text) × (first.before ≡ env')
+  first_unread texts n env env' text out h at some kept none = (
+    record { text = text; at = at; some = some; lines = h.lines; before = env; reads = h.reads; unread = none },
+    refl,
+    sym kept,
+  )
 
   -- ---- a line that was fed
 
@@ -260,3 +259,23 @@ empty_is (c ∷ cs) b e on =
 pub filled_is : (text : List ℕ) (is_empty : Bool) → is_empty ≡ (length text == 0) → is_empty ≡ false → text ≢ []
 filled_is [] b e off = λ same. (let on : b ≡ true = e in absurd (cc))
 filled_is (c ∷ cs) b e off = λ same. absurd (cc)
+
+-- ---- a text that was found to read as no line
+
+module _ (R : Replies) (M : Manners) (texts : List (List ℕ)) (env : Environment) (unread : Unread)
+    (h : IsFoundUnread R M texts env unread) where
+  pub found_unread : (line : List ℕ) → IsShort R M env line unread.text.now → ⊥
+  found_unread line short =
+      h.first.unread line (subst (λ (e : Environment). IsShort R M e line h.first.text) (sym h.before)
+      (subst (λ t. IsShort R M env line t) (sym h.text) short))
+
+  pub found_why : (reason : Reason) → IsUnreadFor R M env unread.text.now reason → IsUnreadFor R M h.first.before h.first.text reason
+  found_why reason why =
+      subst (λ (e : Environment). IsUnreadFor R M e h.first.text reason) (sym h.before)
+      (subst (λ t. IsUnreadFor R M env t reason) (sym h.text) why)
+
+  pub found_told : (tables : TableContents) (reason : Reason) (more : List ℕ) → IsToldUnread tables env unread.text.now reason more
+      → IsToldUnread tables h.first.before h.first.text reason more
+  found_told tables reason more told =
+      subst (λ (e : Environment). IsToldUnread tables e h.first.text reason more) (sym h.before)
+      (subst (λ t. IsToldUnread tables env t reason more) (sym h.text) told)

@@ -1,12 +1,17 @@
 -- The parts of the short form of an application.
-use Rattle.std.proofs.Common.{◌≡◌, ◌≢◌, ℕ, List, [], ◌∷◌, ◌++◌, map, All, Option, None, Some, refl, sym, ap, ◌∙◌, append_assoc, append-nil}
-use Rattle.std.proofs.Common.{arith}
+use Rattle.std.proofs.Common.{◌≡◌, ◌≢◌, ◌==◌, ℕ, Bool, false, List, [], ◌∷◌, ◌++◌, map, All, Option, None, Some, refl, sym, ap, ◌∙◌, append_assoc, append-nil}
+use Rattle.std.proofs.Common.{subst, arith}
+use Rattle.std.specs.List.{join_with_byte}
 use Rattle.std.specs.Option.{option_map, option_map_or}
-use Rattle.std.proofs.lemmas.List.Elements.{All-append}
+use Rattle.std.proofs.lemmas.Bool.{false≢true}
+use Rattle.std.proofs.lemmas.List.Elements.{All-append, All-head, All-weaker}
+use Rattle.std.proofs.lemmas.List.Splits.{join_with_byte-slice_split}
 use Rattle.meta_lines.specs.Words.{pieces_of}
+use Rattle.meta_lines.proofs.PieceLemmas.{slice_split_cons, All-slice_split}
 use Rattle.meta_verify.specs.Statement.{Application, CanApply, value_text}
 use Rattle.meta_asm.specs.Short.{Manner, joined, then_part, control_written, values_written, results_part}
 use Rattle.meta_asm.specs.PlainNames.{IsPlain}
+use Rattle.meta_asm.specs.Unread.{IsCut}
 use Rattle.meta_asm.proofs.SplitLemmas.{Lacks, part_pieces, split_pieces, one_part}
 use Rattle.meta_asm.proofs.ShortLemmas.{results_form, equals, space, front_lacks, control_lacks, values_lack}
 
@@ -91,3 +96,29 @@ pub head_lacks : (m : Manner) (a : Application) → IsPlain a.name → CanApply 
 head_lacks m a plain can =
     All-append (λ b. b ≢ 32) a.name (then_part 46 (control_written m.leaves_out a.control a.second)) plain.space
     (control_lacks 32 m.leaves_out a.control a.second space (omega arith) (omega arith) can.control can.second)
+
+-- ---- what is cut
+
+-- what stands before the first such byte, and after it
+pub cut_is : {X : Type 0} (now : X → List ℕ) (byte : ℕ) (text first : List ℕ) (rest : Option X) → pieces_of byte text
+    ≡ first ∷ option_map_or (λ r. pieces_of byte (now r)) rest [] → IsCut byte text first (option_map now rest)
+cut_is now byte text first rest cut = record {
+  whole = sym (join_with_byte-slice_split byte text) ∙ ap (join_with_byte byte) cut ∙ by rest;
+  first = All-weaker (λ b. (b == byte) ≡ false) (λ b. b ≢ byte) other first
+      (All-head (λ piece. All (λ b. (b == byte) ≡ false) piece) first (option_map_or (λ r. pieces_of byte (now r)) rest [])
+      (subst (All (λ piece. All (λ b. (b == byte) ≡ false) piece)) cut (All-slice_split (λ b. b == byte) text)));
+}
+  where
+    other : (b : ℕ) → (b == byte) ≡ false → b ≢ byte
+    other b off e = false≢true (sym off ∙ eq-eqb b byte e)
+
+    joined_after : (r : X) → join_with_byte byte (first ∷ pieces_of byte (now r)) ≡ first ++ byte ∷ now r
+    joined_after r =
+        let some = slice_split_cons (λ b. b == byte) (now r) in
+        ap (λ ps. join_with_byte byte (first ∷ ps)) some.is
+        ∙ ap (λ t. first ++ byte ∷ t) (sym (ap (join_with_byte byte) some.is) ∙ join_with_byte-slice_split byte (now r))
+
+    by : (o : Option X) → join_with_byte byte (first ∷ option_map_or (λ r. pieces_of byte (now r)) o [])
+        ≡ first ++ then_part byte (option_map now o)
+    by None = sym (append-nil first)
+    by (Some r) = joined_after r

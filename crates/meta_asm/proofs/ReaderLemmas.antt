@@ -47,6 +47,7 @@ use Rattle.meta_asm.specs.Reading.{HasManner, IsShortIn}
 use Rattle.meta_asm.proofs.Determined.{not_relation, one_number_reached, mark_is, value_within, control_constraint_is, control_of}
 use Rattle.meta_asm.proofs.OneLine.{all_name_bytes, name_plain, same_opcode, one_manner, result_number_at}
 use Rattle.meta_asm.specs.Parts.{TellTypes}
+use Rattle.meta_asm.specs.Unread.{untold}
 use Rattle.meta_asm.specs.Written.{shown_control}
 use Rattle.meta_asm.specs.Read.{IsReadBy}
 use Rattle.meta_asm.proofs.LineLemmas.{parameter_line, parameter_small, application_small}
@@ -81,6 +82,18 @@ pub has_entry : (tables : TableContents) (env : Environment) (line : List ℕ) (
 has_entry tables env line a (states, faultless) none =
     let (types, have, (op, named, allows)) = faultless.accepted in
     none op allows.entry named.holds allows.is_opcode
+
+-- what stands at a place
+pub get_found : {X : Type 0} (xs : List X) (k : ℕ) (x d : X) → slice_get xs k ≡ Some x → get_or xs k d ≡ x
+get_found [] k x d e = absurd (cc)
+get_found (y ∷ ys) zero x d e = same_Some y x e
+get_found (y ∷ ys) (suc k) x d e = get_found ys k x d e
+
+pub get_missing : {X : Type 0} (xs : List X) (k : ℕ) (d : X) → slice_get xs k ≡ None → get_or xs k d ≡ d
+get_missing [] zero d e = refl
+get_missing [] (suc k) d e = refl
+get_missing (y ∷ ys) zero d e = absurd (cc)
+get_missing (y ∷ ys) (suc k) d e = get_missing ys k d e
 
 -- ---- the control
 
@@ -198,14 +211,7 @@ module _ (tables : TableContents) (env : Environment) (op : ℕ) (entry : Opcode
   pub tells : (numbers : List ℕ) → GivesResults tables op (option_map number_of a.control) (option_map number_of a.second) numbers
       → TellTypes m.opened a.results numbers
   tells numbers g =
-      let given : g.entry ≡ entry = same_Some g.entry entry (sym g.is_opcode ∙ h.is_entry) in
-      let as_many : length numbers ≡ length (map number_of (map (λ (q : TypedValue). q.type) a.results)) =
-      g.count ∙ ap (λ (e : OpcodeNumbers). result_count e.flags) (given ∙ sym own_entry) ∙ sym h.allows.results in
-      record {
-        count = as_many ∙ length-map (map (λ (q : TypedValue). q.type) a.results) number_of
-            ∙ length-map a.results (λ (q : TypedValue). q.type);
-        each = tells_one numbers g;
-      }
+      record { each = λ k r at closed. get_found numbers k (number_of r.type) untold (tells_one numbers g k r at closed) }
 
 -- ---- the line
 
@@ -301,12 +307,13 @@ right_plain tables well env line a (states, faultless) =
     let (types, have, (op, named, allows)) = faultless.accepted in
     name_plain tables op a.name well named.holds
 
--- a combination that is allowed isn't ruled out
-pub is_allowed : (tables : TableContents) (env : Environment) (op : ℕ) (entry : OpcodeNumbers) (m : Manner) (a : Application)
+-- a combination that is allowed is given numbers
+pub allowed_numbers : (tables : TableContents) (env : Environment) (op : ℕ) (entry : OpcodeNumbers) (m : Manner) (a : Application)
     (c d : Option ℕ) → IsReadBy tables env op entry m a → c ≡ option_map number_of a.control → d ≡ option_map number_of a.second
-    → ((rs vs : List ℕ) → Allows tables op c d rs vs → ⊥) → ⊥
-is_allowed tables env op entry m a c d h ce de none =
-    none (map number_of (map (λ (r : TypedValue). r.type) a.results)) (map number_of h.types)
+    → (numbers : List ℕ) → ((rs vs : List ℕ) → Allows tables op c d rs vs → GivesResults tables op c d numbers)
+    → GivesResults tables op c d numbers
+allowed_numbers tables env op entry m a c d h ce de numbers given =
+    given (map number_of (map (λ (r : TypedValue). r.type) a.results)) (map number_of h.types)
     (subst (λ x. Allows tables op x d (map number_of (map (λ (r : TypedValue). r.type) a.results)) (map number_of h.types)) (sym ce)
     (subst (λ x. Allows tables op (option_map number_of a.control) x (map number_of (map (λ (r : TypedValue). r.type) a.results))
     (map number_of h.types)) (sym de) h.allows))

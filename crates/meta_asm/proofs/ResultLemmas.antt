@@ -1,11 +1,10 @@
 -- The results of a short form, with their types.
 use Rattle.std.specs.Prelude.{⊤}
-use Rattle.std.proofs.Common.{◌≡◌, ◌≢◌, ℕ, suc, Bool, true, false, List, [], ◌∷◌, ◌++◌, map, slice_get, length, All, Option, None, Some}
+use Rattle.std.proofs.Common.{◌≡◌, ◌≢◌, ℕ, zero, suc, Bool, true, false, List, [], ◌∷◌, ◌++◌, map, get_or, drop, length, All, Option, None, Some}
 use Rattle.std.proofs.Common.{is_some, codes, refl, sym, ap, ap₂, ◌∙◌, subst, ◌⊎◌, inl, inr, append_assoc, append-nil, arith}
 use Rattle.std.specs.Fmt.{decimal}
 use Rattle.std.specs.List.{join_with_byte, flat_map}
 use Rattle.std.specs.Option.{option_map, option_map_or}
-use Rattle.std.proofs.lemmas.Option.{same_Some}
 use Rattle.std.proofs.lemmas.List.Elements.{All-head, All-tail}
 use Rattle.meta_types.specs.TypeParts.{number_of, name_of}
 use Rattle.meta_types.specs.TypeNumber.{type_with, IsTypeNumber}
@@ -16,6 +15,7 @@ use Rattle.meta_asm.specs.Short.{shortened, short_results, short_result_text, jo
 use Rattle.meta_asm.proofs.SplitLemmas.{Lacks, joined_pieces}
 use Rattle.meta_asm.proofs.ShortLemmas.{colon, comma, value_lacks, short_lacks}
 use Rattle.meta_asm.specs.Parts.{TellTypes, comma_after}
+use Rattle.meta_asm.specs.Unread.{untold}
 use Rattle.meta_asm.proofs.PartLemmas.{rest_is}
 
 -- ---- one result
@@ -136,8 +136,15 @@ all_left (o ∷ os) (r ∷ rs) numbers list typed tell e =
     some_left (o ∷ os) r rs numbers list (short_result_text (shortened o r)) (map short_result_text (short_results os rs)) typed tell refl
     (cc)
 
+-- a number after the next
+drop_told : (numbers : List ℕ) (k : ℕ) → get_or (drop 1 numbers) k untold ≡ get_or numbers (suc k) untold
+drop_told [] zero = refl
+drop_told [] (suc k) = refl
+drop_told (n ∷ ns) k = refl
+
 -- one more result: of the pieces the next, with the next of the numbers
-module _ (rs : List TypedValue) (number : ℕ) (others : List ℕ) (piece : List ℕ) (pieces : List (List ℕ))
+module _ (rs : List TypedValue) (numbers : List ℕ) (number : ℕ) (others : List ℕ) (number_is : number ≡ get_or numbers 0 untold)
+    (others_are : others ≡ drop 1 numbers) (piece : List ℕ) (pieces : List (List ℕ))
     (word with_comma longer text : List ℕ) (has_type : Bool)
     (space : (rest : List ℕ) → piece ≡ 32 ∷ rest → text ≡ rest) (no_space : (c : ℕ) (rest : List ℕ) → piece ≡ c ∷ rest → c ≢ 32
     → text ≡ piece) (comma_is : with_comma ≡ word ++ comma_after word)
@@ -148,12 +155,12 @@ module _ (rs : List TypedValue) (number : ℕ) (others : List ℕ) (piece : List
   text_is o r (inr e) = space _ e
 
   added : (o : Bool) (os : List Bool) (r : TypedValue) (qs : List TypedValue) → All IsTyped (r ∷ qs)
-      → (o ≡ false → slice_get (number ∷ others) 0 ≡ Some (number_of r.type)) → TellTypes os qs others
+      → (o ≡ false → number ≡ number_of r.type) → TellTypes os qs others
       → AreSpaced (piece ∷ pieces) (short_result_text (shortened o r) ∷ map short_result_text (short_results os qs))
       → word ++ still word (map typed_text (r ∷ qs)) ≡ list_text (map typed_text rs)
       → (has_type ≡ true) × AreLeft rs others pieces longer
   added o os r qs typed tells tell spaced is =
-      let put = pushed o r (All-head IsTyped r qs typed) (λ e. same_Some number (number_of r.type) (tells e)) (text_is o r spaced.0) in
+      let put = pushed o r (All-head IsTyped r qs typed) tells (text_is o r spaced.0) in
       let all : longer ≡ (word ++ comma_after word) ++ typed_text r = put.1 ∙ ap (λ w. w ++ typed_text r) comma_is in (
         put.0,
         record {
@@ -167,28 +174,27 @@ module _ (rs : List TypedValue) (number : ℕ) (others : List ℕ) (piece : List
         },
       )
 
-  tell_others : (os : List Bool) (o : Bool) (r : TypedValue) (qs : List TypedValue) → TellTypes (o ∷ os) (r ∷ qs) (number ∷ others)
+  tell_later : (k : ℕ) → get_or others k untold ≡ get_or numbers (suc k) untold
+  tell_later k = ap (λ (ns : List ℕ). get_or ns k untold) others_are ∙ drop_told numbers k
+
+  tell_others : (os : List Bool) (o : Bool) (r : TypedValue) (qs : List TypedValue) → TellTypes (o ∷ os) (r ∷ qs) numbers
       → TellTypes os qs others
-  tell_others os o r qs tell = record {
-    count = (let c : suc (length others) ≡ suc (length qs) = tell.count in omega (arith, c));
-    each = λ k q at closed. tell.each (suc k) q at closed;
-  }
+  tell_others os o r qs tell = record { each = λ k q at closed. tell_later k ∙ tell.each (suc k) q at closed }
 
-  tell_more : (r : TypedValue) (qs : List TypedValue) → TellTypes [] (r ∷ qs) (number ∷ others) → TellTypes [] qs others
-  tell_more r qs tell = record {
-    count = (let c : suc (length others) ≡ suc (length qs) = tell.count in omega (arith, c));
-    each = λ k q at closed. tell.each (suc k) q at refl;
-  }
+  tell_more : (r : TypedValue) (qs : List TypedValue) → TellTypes [] (r ∷ qs) numbers → TellTypes [] qs others
+  tell_more r qs tell = record { each = λ k q at closed. tell_later k ∙ tell.each (suc k) q at refl }
 
-  next : (opened : List Bool) (results : List TypedValue) → All IsTyped results → TellTypes opened results (number ∷ others)
+  next : (opened : List Bool) (results : List TypedValue) → All IsTyped results → TellTypes opened results numbers
       → AreSpaced (piece ∷ pieces) (map short_result_text (short_results opened results))
       → word ++ still word (map typed_text results) ≡ list_text (map typed_text rs) → (has_type ≡ true) × AreLeft rs others pieces longer
   next [] [] typed tell spaced is = absurd spaced
   next (o ∷ os) [] typed tell spaced is = absurd spaced
-  next [] (r ∷ qs) typed tell spaced is = added false [] r qs typed (λ e. tell.each 0 r refl refl) (tell_more r qs tell) spaced is
-  next (o ∷ os) (r ∷ qs) typed tell spaced is = added o os r qs typed (λ e. tell.each 0 r refl e) (tell_others os o r qs tell) spaced is
+  next [] (r ∷ qs) typed tell spaced is =
+      added false [] r qs typed (λ e. number_is ∙ tell.each 0 r refl refl) (tell_more r qs tell) spaced is
+  next (o ∷ os) (r ∷ qs) typed tell spaced is =
+      added o os r qs typed (λ e. number_is ∙ tell.each 0 r refl e) (tell_others os o r qs tell) spaced is
 
-  pub one_result_more : (left : List (List ℕ)) → AreLeft rs (number ∷ others) left word → left ≡ piece ∷ pieces
+  pub one_result_more : (left : List (List ℕ)) → AreLeft rs numbers left word → left ≡ piece ∷ pieces
       → (has_type ≡ true) × AreLeft rs others pieces longer
   one_result_more left h e = next h.opened h.results h.typed h.tell
       (subst (λ ps. AreSpaced ps (map short_result_text (short_results h.opened h.results))) e h.spaced) h.text

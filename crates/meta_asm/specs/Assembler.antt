@@ -1,6 +1,6 @@
 -- What a run does that writes a list of lines in another form.
 --     ShortensList, SpellsList, WritesBack      what it writes where nothing fails
-use Rattle.std.specs.Prelude.{◌≡◌, ◌≢◌, ℕ, ◌+◌, ◌⊎◌, Bool, true, false, List, ◌++◌, Option, Some}
+use Rattle.std.specs.Prelude.{◌≡◌, ◌≢◌, ℕ, ◌+◌, ◌⊎◌, true, false, List, ◌++◌, Option, Some}
 use Rattle.meta_text.specs.Outside.{Rose}
 use Rattle.meta_build.specs.AllDeclared.{Declared, AreValid}
 use Rattle.meta_lines.specs.Lines.{lines_of}
@@ -13,8 +13,7 @@ use Rattle.meta_verify.specs.Verifier.{SaysWrong}
 use Rattle.meta_verify.specs.declared.reason.Reason.TheVariants.{Bad}
 use Rattle.meta_asm.specs.Manners.{IsMannerDeclared}
 use Rattle.meta_asm.specs.Listing.{text_of_lines, filled, AreShortForms, IsFirstUnread, IsShortened}
-use Rattle.meta_asm.specs.Form.{words_for, written_in}
-use Rattle.meta_asm.specs.declared.form.Form.{Form}
+use Rattle.meta_asm.specs.Form.{words_for}
 use Rattle.meta_asm.specs.declared.form.Form.TheVariants.{Short, Explicit}
 
 -- a source and a sink, by what contracts see of them, before and after a run over declarations

@@ -3,10 +3,12 @@ pub mod PlainNames
 pub mod Manners
 pub mod Reading
 pub mod Made
+pub mod Unread
 pub mod ShortWritten
 pub mod Parts
 pub mod Written
 pub mod Read
 pub mod Listing
 pub mod Form
+pub mod Why
 pub mod Assembler

@@ -1,9 +1,10 @@
-ghost use Rattle.std.specs.Prelude.{◌≡◌, ◌≢◌, ℕ, List, [], ◌∷◌, ◌++◌, All};
+ghost use Rattle.std.specs.Prelude.{◌≡◌, ◌≢◌, ℕ, List, [], ◌∷◌, ◌++◌, All, Option};
 ghost use Rattle.std.specs.Option.{option_map};
 ghost use Rattle.meta_verify.specs.Statement.{Application, CanApply};
 ghost use Rattle.meta_asm.specs.Short.{Manner, results_part, values_written, short_application};
 ghost use Rattle.meta_asm.specs.PlainNames.{IsPlain};
 ghost use Rattle.meta_asm.specs.Parts.{HasShortParts};
+ghost use Rattle.meta_asm.specs.Unread.{after_space, applied_in, IsCut, IsNameIn};
 
 use meta_lines::cut;
 
@@ -30,6 +31,7 @@ fn without_space_after(text: &[u8]) -> &[u8]
 pub(crate) fn without_space_before(text: &[u8]) -> &[u8]
     ensures space { (rest : List ℕ) → text.now ≡ 32 ∷ rest → result.now ≡ rest }
     ensures no_space { (c : ℕ) (rest : List ℕ) → text.now ≡ c ∷ rest → c ≢ 32 → result.now ≡ text.now }
+    ensures after { result.now ≡ after_space text.now }
 {
     match text {
         [b' ', rest @ ..] => rest,
@@ -52,6 +54,7 @@ fn sides_of(text: &[u8]) -> Sides<'_>
     ensures applied { (results : List (List ℕ)) (applied : List ℕ)
         → All (λ t. All (λ b. b ≢ 61) t) results → All (λ b. b ≢ 61) applied → text.now ≡ results_part results ++ applied
         → result.applied.now ≡ applied }
+    ensures sides { (front : List ℕ) × (rest : Option (List ℕ)) × IsCut 61 text.now front rest × (result.applied.now ≡ applied_in front rest) }
 {
     let (front, rest) = cut(text, b'=');
     match rest {
@@ -68,7 +71,9 @@ fn sides_of(text: &[u8]) -> Sides<'_>
 
 /// The parts of the short form of an application. For another text they are some parts of it.
 pub(crate) fn parts_of(text: &[u8]) -> ShortParts<'_>
-    ensures { (m : Manner) (a : Application) → IsPlain a.name → CanApply a → text.now ≡ short_application m a → HasShortParts m a result }
+    ensures parts { (m : Manner) (a : Application) → IsPlain a.name → CanApply a → text.now ≡ short_application m a
+        → HasShortParts m a result }
+    ensures named { IsNameIn text.now result.name.now }
 {
     let sides = sides_of(text);
     let (head, values) = cut(sides.applied, b' ');

@@ -1,20 +1,23 @@
-ghost use Rattle.std.specs.Prelude.{◌≡◌, ◌<◌, ◌≢◌, ℕ, List, All, true, false, IfOk, IfSome, IfNone, Some, Option};
+ghost use Rattle.std.specs.Prelude.{◌≡◌, ◌<◌, ◌≢◌, ℕ, List, All, true, false, is_some, IfOk, IfSome, IfNone, Some, None, Option};
 ghost use Rattle.std.specs.Option.{option_map};
 ghost use Rattle.std.specs.List.{position};
 ghost use Rattle.meta_lists.specs.First.{IsFirst};
 ghost use Rattle.meta_types.specs.TypeParts.{number_of};
-ghost use Rattle.meta_inst.specs.Tables.{OpcodeNumbers, at_opcode};
+ghost use Rattle.meta_inst.specs.Inference.{GivesResults};
+ghost use Rattle.meta_inst.specs.Tables.{OpcodeNumbers, at_opcode, Allows};
 ghost use Rattle.meta_gen.specs.Constraint.{number_constraint_of, entry_of};
 ghost use Rattle.meta_gen.specs.Contents.{IsOpcodeNamed};
 ghost use Rattle.meta_gen.specs.Reply.{AllowedReply};
 ghost use Rattle.meta_verify.specs.Statement as spec;
+ghost use Rattle.meta_verify.specs.Statement.{CanApply};
 ghost use Rattle.meta_verify.specs.Defined.{definitions};
 ghost use Rattle.meta_verify.specs.Wrong.{IsRight};
 ghost use Rattle.meta_asm.specs.Short.{Manner as spec_Manner, short_application};
-ghost use Rattle.meta_asm.specs.Manners.{manner_of, is_control, IsMannerIn};
+ghost use Rattle.meta_asm.specs.Manners.{manner_of, is_control, value_constraints, IsMannerIn};
+ghost use Rattle.meta_asm.specs.Unread.{type_at, AreInferred};
 ghost use Rattle.meta_asm.specs.Reading.{IsShortIn, ReadsIn};
 ghost use Rattle.meta_asm.specs.Parts.{HasShortParts};
-ghost use Rattle.meta_asm.specs.Read.{IsReadBy};
+ghost use Rattle.meta_asm.specs.Read.{IsReadBy, IsFormBy, FillsOut};
 ghost use Rattle.meta_asm.specs.Written.{HasWritten};
 
 use super::manner::{Manner, is_control, value_constraints};
@@ -63,9 +66,14 @@ fn control_place(constraints: &[Constraint]) -> Option<usize>
 
 /// The number of the controlling type: as it is written, or else that of the value that has it.
 fn control_of(tables: &Tables, checker: &Checker, named: Named, written: &Written) -> Option<u16>
-    ensures { (m : spec_Manner) (a : spec.Application)
+    ensures right { (m : spec_Manner) (a : spec.Application)
         → IsReadBy tables.now.opcodes (definitions checker.now) named.opcode (entry_of named.entry) m a
         → named.leaves_out ≡ m.leaves_out → HasWritten m a written.now → result ≡ option_map number_of a.control }
+    ensures written { is_some written.now.control ≡ true → result ≡ written.now.control }
+    ensures shown { is_some written.now.control ≡ false → named.leaves_out ≡ false → result ≡ None }
+    ensures told { is_some written.now.control ≡ false → named.leaves_out ≡ true → result ≡ option_map number_of
+        (type_at (definitions checker.now) written.now.values.items
+        (position is_control (value_constraints tables.now.opcodes (entry_of named.entry)))) }
 {
     if written.control.is_some() {
         return written.control;
@@ -78,7 +86,27 @@ fn control_of(tables: &Tables, checker: &Checker, named: Named, written: &Writte
     checker.type_of(*value)
 }
 
-/// The line of the application that the parts write, with its types, if they are those of an application that is right.
+/// The numbers of the types of the results that are inferred under these controls, as `infer_results2` gives them. There are none if nothing
+/// is inferred.
+fn inferred(
+    alloc: Global,
+    tables: &Tables,
+    opcode: u16,
+    control: Option<u16>,
+    second: Option<u16>,
+) -> Result<Vec<u16>, AllocError>
+    ensures inferred { IfOk result (λ numbers. AreInferred tables.now.opcodes opcode control second numbers.items) }
+    ensures allowed { IfOk result (λ numbers. (rs vs : List ℕ) → Allows tables.now.opcodes opcode control second rs vs
+        → GivesResults tables.now.opcodes opcode control second numbers.items) }
+{
+    let mut numbers = [0; 7];
+    match tables.infer_results2(opcode, control, second, &mut numbers) {
+        Some(count) => numbers[..count].to_vec(alloc),
+        None => Ok(Vec::new(alloc)),
+    }
+}
+
+/// The line of the application that the parts write, with its types. `None` if the parts are those of no application.
 fn line_with_types(
     alloc: Global,
     tables: &Tables,
@@ -86,22 +114,24 @@ fn line_with_types(
     named: Named,
     parts: ShortParts<'_>,
 ) -> Result<Option<Vec<u8>>, AllocError>
-    ensures { IfOk result (λ o. (line : List ℕ) (m : spec_Manner) (a : spec.Application)
+    ensures right { IfOk result (λ o. (line : List ℕ) (m : spec_Manner) (a : spec.Application)
         → spec.IsStatement line (spec.OfApplication a)
         → IsReadBy tables.now.opcodes (definitions checker.now) named.opcode (entry_of named.entry) m a
         → named.leaves_out ≡ m.leaves_out → HasShortParts m a parts.entry → option_map (λ l. l.items) o ≡ Some line) }
+    ensures filled { IfOk result (λ o. (m : spec_Manner) (a : spec.Application)
+        → IsFormBy tables.now.opcodes named.opcode (entry_of named.entry) m a
+        → named.leaves_out ≡ m.leaves_out → HasShortParts m a parts.entry
+        → FillsOut tables.now.opcodes (definitions checker.now) m a (option_map (λ l. l.items) o)) }
 {
+    let _opcodes = tables.opcode_count();
     let values = values_word(alloc, parts.values)?;
     let Some(written) = written_of(alloc, parts, &values)? else {
         return Ok(None);
     };
     let control = control_of(tables, checker, named, &written);
-    let mut numbers = [0; 7];
-    let Some(count) = tables.infer_results2(named.opcode, control, written.second, &mut numbers)
-    else {
-        return Ok(None);
-    };
-    let Some(results) = results_word(alloc, parts.results, &numbers[..count])? else {
+    let _known = checker.type_of(0);
+    let numbers = inferred(alloc, tables, named.opcode, control, written.second)?;
+    let Some(results) = results_word(alloc, parts.results, &numbers)? else {
         return Ok(None);
     };
     let control = control_word(alloc, parts.control, control)?;
@@ -114,16 +144,19 @@ fn line_with_types(
     Ok(Some(line_of(alloc, words)?))
 }
 
-/// The line of the application whose short form the text is, if there is one.
-fn spelled_out(
+/// The line of the application whose short form the text is, with all types, whether it is right or not. `None` only if there is none.
+pub(crate) fn spelled_out(
     alloc: Global,
     tables: &Tables,
     checker: &Checker,
     text: &[u8],
 ) -> Result<Option<Vec<u8>>, AllocError>
-    ensures { IfOk result (λ o. (line : List ℕ) (m : spec_Manner) (a : spec.Application)
+    ensures right { IfOk result (λ o. (line : List ℕ) (m : spec_Manner) (a : spec.Application)
         → IsRight (AllowedReply tables.now.opcodes) (definitions checker.now) line (spec.OfApplication a)
         → IsMannerIn tables.now.opcodes a.name m → text.now ≡ short_application m a → option_map (λ l. l.items) o ≡ Some line) }
+    ensures filled { IfOk result (λ o. (m : spec_Manner) (a : spec.Application) → CanApply a
+        → IsMannerIn tables.now.opcodes a.name m → text.now ≡ short_application m a
+        → FillsOut tables.now.opcodes (definitions checker.now) m a (option_map (λ l. l.items) o)) }
 {
     let _opcodes = tables.opcode_count();
     let parts = parts_of(text);

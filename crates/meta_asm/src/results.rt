@@ -1,9 +1,10 @@
-ghost use Rattle.std.specs.Prelude.{◌≡◌, ◌++◌, ℕ, Bool, true, List, ◌∷◌, map, All, Option, Some, IfOk, IfSome, IfNone, OnOk, [], false};
+ghost use Rattle.std.specs.Prelude.{◌≡◌, ◌++◌, ℕ, Bool, true, List, map, get_or, drop, All, Option, Some, IfOk, OnOk, false};
 ghost use Rattle.std.specs.Option.{option_map};
 ghost use Rattle.meta_types.specs.TypeParts.{number_of};
 ghost use Rattle.meta_verify.specs.Statement.{TypedValue, IsTyped, typed_text, list_text};
 ghost use Rattle.meta_asm.specs.Short.{shortened, short_results, short_result_text, values_written};
 ghost use Rattle.meta_asm.specs.Parts.{TellTypes, comma_after};
+ghost use Rattle.meta_asm.specs.Unread.{untold};
 
 use super::parts::without_space_before;
 use super::words::push_type;
@@ -41,16 +42,22 @@ fn push_comma(word: &mut Vec<u8>) -> Result<(), AllocError>
     Ok(())
 }
 
-fn next_number(numbers: &[u16]) -> Option<(u16, &[u16])>
-    ensures some { IfSome result (λ p. numbers.now ≡ p.0 ∷ p.1.now) }
-    ensures none { IfNone result (numbers.now ≡ []) }
+/// The number of `i8`, which stands for a type that nothing tells.
+const UNTOLD: u16 = 116;
+
+/// The next of the numbers, and those after it. After the last come numbers of types that nothing tells.
+fn next_number(numbers: &[u16]) -> (u16, &[u16])
+    ensures first { result.0 ≡ get_or numbers.now 0 untold }
+    ensures others { result.1.now ≡ drop 1 numbers.now }
 {
-    let (first, others) = numbers.split_first()?;
-    Some((*first, others))
+    match numbers {
+        [first, others @ ..] => (*first, others),
+        [] => (UNTOLD, numbers),
+    }
 }
 
-/// The word for results: `-` if there are none, and else each with its type, as it is written or by its number. There is a number for each
-/// result. `None` if there are more results than numbers, or no type has a number that is needed.
+/// The word for results: `-` if there are none, and else each with its type, as it is written or by its number. A result that has no number
+/// is taken as `i8`. `None` if no type has a number that is needed.
 pub(crate) fn results_word(
     alloc: Global,
     list: Option<&[u8]>,
@@ -67,9 +74,7 @@ pub(crate) fn results_word(
     let mut word = Vec::new(alloc);
     let mut numbers_left = numbers;
     for piece in Pieces::new(listed, b',') {
-        let Some((number, others)) = next_number(numbers_left) else {
-            return Ok(None);
-        };
+        let (number, others) = next_number(numbers_left);
         numbers_left = others;
         push_comma(&mut word)?;
         let text = without_space_before(piece);

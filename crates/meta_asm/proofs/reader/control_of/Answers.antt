@@ -11,8 +11,8 @@ use Rattle.meta_asm.specs.Manners.{is_control, value_constraints}
 use Rattle.meta_asm.proofs.ReaderLemmas.{place_is, no_place, some_control, has_value, value_controls}
 use Rattle.meta_asm.proofs.reader.control_of.Goals as goal
 
-pub returns-in_err-place : goal.returns-in_err-place
-returns-in_err-place c = λ m a h out w.
+pub returns-in_err-place-clause-right : goal.returns-in_err-place-clause-right
+returns-in_err-place-clause-right c = λ m a h out w.
     let none : position (λ (x : Constraint). is_control (number_constraint_of x)) c.value_constraints.result.now ≡ None =
     sym c.control_place.ensures ∙ c.in_err-place.was in
     let off : list_any is_control (value_constraints c.args.tables.now.opcodes (entry_of c.args.named.entry)) ≡ false =
@@ -22,8 +22,8 @@ returns-in_err-place c = λ m a h out w.
     (entry_of c.args.named.entry) m a h (sym out ∙ leaves) in
     absurd (false≢true (sym off ∙ on))
 
-pub returns-in_err-value : goal.returns-in_err-value
-returns-in_err-value c = λ m a h out w.
+pub returns-in_err-value-clause-right : goal.returns-in_err-value-clause-right
+returns-in_err-value-clause-right c = λ m a h out w.
     let some : position (λ (x : Constraint). is_control (number_constraint_of x)) c.value_constraints.result.now
     ≡ Some c.in_ok-place.place = sym c.control_place.ensures ∙ c.in_ok-place.was in
     let there : slice_get (value_constraints c.args.tables.now.opcodes (entry_of c.args.named.entry)) c.in_ok-place.place
@@ -35,8 +35,8 @@ returns-in_err-value c = λ m a h out w.
     let past = c.in_err-value.ensures.lookup.3 in
     absurd (omega (arith, few, own, past))
 
-pub returns : goal.returns
-returns c = λ m a h out w.
+pub returns-clause-right : goal.returns-clause-right
+returns-clause-right c = λ m a h out w.
     let some : position (λ (x : Constraint). is_control (number_constraint_of x)) c.value_constraints.result.now
     ≡ Some c.in_ok-place.place = sym c.control_place.ensures ∙ c.in_ok-place.was in
     let there : slice_get (value_constraints c.args.tables.now.opcodes (entry_of c.args.named.entry)) c.in_ok-place.place

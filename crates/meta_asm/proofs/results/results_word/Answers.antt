@@ -26,23 +26,22 @@ returns c = λ opened rs typed tell e.
 
 pub returns-then-not-branch : goal.returns-then-not-branch
 returns-then-not-branch c = λ opened rs typed tell e.
-    let left = subst (λ (ns : List ℕ). AreLeft rs ns c.loop-piece.piece-iterator c.loop-piece.word.items)
-    c.in-Some-next_number.ensures.some (c.loop-piece.invariant opened rs typed tell e) in
     let on : c.in_ok-push_result.field-0 ≡ true =
-    (one_result_more rs c.in-Some-next_number.number c.in-Some-next_number.others.now c.in-Some-piece.piece.now c.next.new.self
+    (one_result_more rs c.loop-piece.numbers_left.now c.next_number.result.0 c.next_number.result.1.now c.next_number.ensures.first
+    c.next_number.ensures.others c.in-Some-piece.piece.now c.next.new.self
     c.loop-piece.word.items c.push_comma.new.word.items c.push_result.new.word.items c.without_space_before-text.result.now
     c.in_ok-push_result.field-0
     c.without_space_before-text.ensures.space c.without_space_before-text.ensures.no_space c.in_ok-push_comma.ensures
-    c.in_ok-push_result.ensures c.loop-piece.piece-iterator left c.in-Some-piece.ensures.steps).0 in
+    c.in_ok-push_result.ensures c.loop-piece.piece-iterator (c.loop-piece.invariant opened rs typed tell e) c.in-Some-piece.ensures.steps).0
+    in
     let off : c.in_ok-push_result.field-0 ≡ false = search rules in
     absurd (cc)
 
 pub loop-piece-preserved : goal.loop-piece-preserved
 loop-piece-preserved c = λ opened rs typed tell e.
-    let left = subst (λ (ns : List ℕ). AreLeft rs ns c.loop-piece.piece-iterator c.loop-piece.word.items)
-    c.in-Some-next_number.ensures.some (c.loop-piece.invariant opened rs typed tell e) in
-    (one_result_more rs c.in-Some-next_number.number c.in-Some-next_number.others.now c.in-Some-piece.piece.now c.next.new.self
+    (one_result_more rs c.loop-piece.numbers_left.now c.next_number.result.0 c.next_number.result.1.now c.next_number.ensures.first
+    c.next_number.ensures.others c.in-Some-piece.piece.now c.next.new.self
     c.loop-piece.word.items c.push_comma.new.word.items c.push_result.new.word.items c.without_space_before-text.result.now
     c.in_ok-push_result.field-0
     c.without_space_before-text.ensures.space c.without_space_before-text.ensures.no_space c.in_ok-push_comma.ensures
-    c.in_ok-push_result.ensures c.loop-piece.piece-iterator left c.in-Some-piece.ensures.steps).1
+    c.in_ok-push_result.ensures c.loop-piece.piece-iterator (c.loop-piece.invariant opened rs typed tell e) c.in-Some-piece.ensures.steps).1
