@@ -122,24 +122,33 @@ impl<'l> Formats<'l> {
         match word {
             "fields" => write_fields(self.next(case)?, variables, case),
             "structure" => write_structure(&self.next(case)?.structure(self.alloc)?, case),
-            "alike" => {
-                let (one, other) = (self.next(case)?, self.next(case)?);
-                let structure = one.structure(self.alloc)?;
-                case.shown(&(structure == other.structure(self.alloc)?));
-            }
-            "order" => {
-                let (one, other) = (self.next_id(case)?, self.next_id(case)?);
-                case.field("less ", &(one < other));
-                case.field(" equal ", &(one == other));
-            }
-            "has" => {
-                let id = self.next_id(case)?;
-                case.shown(&self.table.len());
-                case.letter(' ');
-                case.yes_or_no(self.table.is_of(id));
-            }
+            "alike" => return self.write_alike(case),
+            "order" => return self.write_order(case),
+            "has" => return self.write_has(case),
             _ => return Err(Trouble::BadLine),
         }
+        Ok(())
+    }
+
+    fn write_alike(&self, case: &mut Case<'_>) -> Answer {
+        let (one, other) = (self.next(case)?, self.next(case)?);
+        let structure = one.structure(self.alloc)?;
+        case.shown(&(structure == other.structure(self.alloc)?));
+        Ok(())
+    }
+
+    fn write_order(&self, case: &mut Case<'_>) -> Answer {
+        let (one, other) = (self.next_id(case)?, self.next_id(case)?);
+        case.field("less ", &(one < other));
+        case.field(" equal ", &(one == other));
+        Ok(())
+    }
+
+    fn write_has(&self, case: &mut Case<'_>) -> Answer {
+        let id = self.next_id(case)?;
+        case.shown(&self.table.len());
+        case.letter(' ');
+        case.yes_or_no(self.table.is_of(id));
         Ok(())
     }
 }

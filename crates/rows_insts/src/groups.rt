@@ -4,8 +4,8 @@ use meta_build::Declarations;
 use meta_inst::AllInstructions;
 use meta_operands::FormatTable;
 use meta_settings::{
-    Preset, PresetType, Setting, SettingGroup, SettingGroupBuilder, SpecificSetting, TargetIsa,
-    ValueNames,
+    BoolSettingIndex, Preset, PresetIndex, PresetType, Setting, SettingGroup, SettingGroupBuilder,
+    SpecificSetting, TargetIsa, ValueNames,
 };
 use meta_types::Text;
 use meta_typevar::TypeVars;
@@ -90,39 +90,69 @@ impl<'l> Groups<'l> {
     fn declare(&mut self, sort: &str, case: &mut Case<'l>) -> Answer {
         let (name, value) = (text_of(case.word()), text_of(case.word()));
         let (description, comment) = case.doc().split_once(" | ").unwrap_or((case.doc(), ""));
-        if !self.group.has_room() {
-            return Err(Trouble::NoCase);
-        }
-        let alloc = self.alloc;
-        let (title, description, comment) = texts(alloc, [name, description, comment])?;
-        let entry = match sort {
+        let told = [name, description, comment];
+        match sort {
             "bool" => {
-                let default = number::<bool>(value)?;
-                let index = self.group.add_bool(title, description, comment, default)?;
+                let index = self.add_bool(told, value)?;
                 case.field("boolean ", &index.number());
-                PresetType::from(index)
+                self.keep(name, PresetType::from(index))
             }
             "preset" => {
-                let args = meant(alloc, &self.named, value)?;
-                let index = self.group.add_preset(title, description, args)?;
+                let index = self.add_preset(told, value)?;
                 case.field("preset ", &index.number());
-                PresetType::from(index)
+                self.keep(name, PresetType::from(index))
             }
             "num" => {
                 case.text("Ok");
-                let default = number::<u8>(value)?;
-                return Ok(self.group.add_num(title, description, comment, default)?);
+                self.add_num(told, number::<u8>(value)?)
             }
             _ => {
                 case.text("Ok");
-                let values = texts_of(alloc, value, "")?;
-                return Ok(self.group.add_enum(title, description, comment, values)?);
+                self.add_enum(told, value)
             }
-        };
+        }
+    }
+
+    fn keep(&mut self, name: &'l str, entry: PresetType) -> Answer {
         match self.named.push((name, entry)) {
             Ok(()) => Ok(()),
             Err(_) => Err(Trouble::OutOfMemory),
         }
+    }
+
+    fn add_bool(&mut self, told: [&str; 3], default: &str) -> Result<BoolSettingIndex, Trouble> {
+        if !self.group.has_room() {
+            return Err(Trouble::NoCase);
+        }
+        let default = number::<bool>(default)?;
+        let (name, description, comment) = texts(self.alloc, told)?;
+        Ok(self.group.add_bool(name, description, comment, default)?)
+    }
+
+    fn add_preset(&mut self, told: [&str; 3], names: &str) -> Result<PresetIndex, Trouble> {
+        if !self.group.has_room() {
+            return Err(Trouble::NoCase);
+        }
+        let args = meant(self.alloc, &self.named, names)?;
+        let (name, description, _) = texts(self.alloc, told)?;
+        Ok(self.group.add_preset(name, description, args)?)
+    }
+
+    fn add_num(&mut self, told: [&str; 3], default: u8) -> Answer {
+        if !self.group.has_room() {
+            return Err(Trouble::NoCase);
+        }
+        let (name, description, comment) = texts(self.alloc, told)?;
+        Ok(self.group.add_num(name, description, comment, default)?)
+    }
+
+    fn add_enum(&mut self, told: [&str; 3], values: &str) -> Answer {
+        if !self.group.has_room() {
+            return Err(Trouble::NoCase);
+        }
+        let values = texts_of(self.alloc, values, "")?;
+        let (name, description, comment) = texts(self.alloc, told)?;
+        Ok(self.group.add_enum(name, description, comment, values)?)
     }
 
     /// `many num COUNT`: declares COUNT numbers, `n0`, `n1` and so on.
@@ -131,15 +161,15 @@ impl<'l> Groups<'l> {
             return Err(Trouble::BadLine);
         }
         for number in 0..case.number::<u16>() {
-            if !self.group.has_room() {
-                return Err(Trouble::NoCase);
-            }
-            let name = format!(in self.alloc; "n{number}")?;
-            let (name, description, comment) = texts(self.alloc, [name.as_str(), "", ""])?;
-            self.group.add_num(name, description, comment, 0)?;
+            self.declare_number(number)?;
         }
         case.text("Ok");
         Ok(())
+    }
+
+    fn declare_number(&mut self, number: u16) -> Answer {
+        let name = format!(in self.alloc; "n{number}")?;
+        self.add_num([name.as_str(), "", ""], 0)
     }
 
     /// `in_order NAME BOOLEAN,PRESET,BOOLEAN`: declares a preset of what `preset!` makes of these, and writes that, and whether it is
@@ -239,28 +269,33 @@ impl<'l> Groups<'l> {
         let group = self.next_group(case)?;
         match word {
             "layout" => {
-                for setting in group.settings() {
-                    case.separate('\n');
-                    write_setting(setting, case);
-                }
+                write_layout(group, case);
                 Ok(())
             }
             "bytes" => write_bytes(self.alloc, group, case),
             "presets" => write_presets(self.alloc, group, case),
             "names" => write_names(group, case),
-            "alike" => {
-                write_alike(group, &self.group.build(self.alloc, 1)?, case);
-                Ok(())
-            }
+            "alike" => self.write_alike(group, case),
             "which" => write_which(self.alloc, group, case),
-            "has" => {
-                let preset = preset_of(group, case.word())?;
-                let other = self.next_group(case)?;
-                case.shown(&other.has(preset));
-                Ok(())
-            }
+            "has" => self.write_has(group, case),
             _ => Err(Trouble::BadLine),
         }
+    }
+
+    fn write_alike(&self, group: &SettingGroup, case: &mut Case<'_>) -> Answer {
+        let other = self.group.build(self.alloc, 1)?;
+        case.text("settings");
+        write_pairs(group.settings(), other.settings(), case);
+        case.text(" presets");
+        write_pairs(group.presets(), other.presets(), case);
+        Ok(())
+    }
+
+    fn write_has(&self, group: &SettingGroup, case: &mut Case<'l>) -> Answer {
+        let preset = preset_of(group, case.word())?;
+        let other = self.next_group(case)?;
+        case.shown(&other.has(preset));
+        Ok(())
     }
 }
 
@@ -271,6 +306,13 @@ impl<'l> Answering<'l> for Groups<'l> {
         let answered = self.answer(word, &mut case);
         case.close(answered);
         case.end(answers)
+    }
+}
+
+fn write_layout(group: &SettingGroup, case: &mut Case<'_>) {
+    for setting in group.settings() {
+        case.separate('\n');
+        write_setting(setting, case);
     }
 }
 
@@ -371,13 +413,6 @@ fn write_pairs<T: PartialEq + Hash>(one: &[T], two: &[T], case: &mut Case<'_>) {
             }
         }
     }
-}
-
-fn write_alike(one: &SettingGroup, two: &SettingGroup, case: &mut Case<'_>) {
-    case.text("settings");
-    write_pairs(one.settings(), two.settings(), case);
-    case.text(" presets");
-    write_pairs(one.presets(), two.presets(), case);
 }
 
 /// Writes the names of the group's settings that are equal to one that the line makes: `num DEFAULT`, or an enum with a copy of its values.
