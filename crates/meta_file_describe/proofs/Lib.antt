@@ -1,5 +1,6 @@
 pub mod Alike
 pub mod BuiltAlike
+pub mod BuiltLayouts
 pub mod DeclaredAgain
 pub mod Fitting
 pub mod FreeWords

@@ -2,14 +2,14 @@
 --     items_of_group g           a `group`, its settings in the order of its layout, and its presets
 --     items_of_groups groups     those of each of the groups, in order
 --     EndWith items groups       the last items are those of the groups
-use Rattle.std.specs.Prelude.{◌≡◌, ℕ, List, [], ◌∷◌, ◌++◌, Option, Some, None, map}
+use Rattle.std.specs.Prelude.{◌≡◌, ℕ, List, [], ◌∷◌, ◌++◌, Option, Some, None, map, slice_get}
 use Rattle.std.specs.List.{flat_map}
 use Rattle.meta_file_syntax.specs.declared.items.Item.{Item}
 use Rattle.meta_file_syntax.specs.declared.items.Item.TheVariants as item
 use Rattle.meta_settings.specs.declared.setting.SpecificSetting.{SpecificSetting}
 use Rattle.meta_settings.specs.declared.setting.SpecificSetting.TheVariants.{Bool as ABool, Enum as AnEnum, Num as ANum}
 use Rattle.meta_settings.specs.Layout.{PlacedSetting, BuiltPreset, Layout}
-use Rattle.meta_settings.specs.PresetLayout.{names_turned_on}
+use Rattle.meta_settings.specs.PresetLayout.{HasAll, names_turned_on}
 use Rattle.meta_file_describe.specs.Wording.{name_for, doc_lines}
 
 -- a comment, left out where it is empty
@@ -41,6 +41,10 @@ item_as s (ANum default) = item.Num (record {
 -- the item of a setting: its description is the documentation
 abbrev pub item_of_setting : PlacedSetting → Item
 item_of_setting s = item_as s s.specific
+
+-- each preset turns on booleans of the group alone
+abbrev pub HasItsBooleans : Layout → Type 0
+HasItsBooleans g = (k : ℕ) (p : BuiltPreset) → slice_get g.presets k ≡ Some p → HasAll g p
 
 -- the item of a preset of a group: it names the booleans that the preset turns on
 abbrev pub item_of_preset : Layout → BuiltPreset → Item

@@ -16,44 +16,43 @@ use super::insts::push_insts;
 use super::kinds::Kinds;
 use super::roots::Roots;
 use super::settings::push_groups;
+use super::unsaid::Unsaid;
 use super::words::Words;
 use meta_build::Built;
 use meta_file_reader::{ReadError, one_list_of_items, read_items, what_is_written_is_read};
 use meta_file_syntax::{Item, write_items};
-use meta_operands::FormatId;
+use meta_setting_tables::built_groups_have_tables;
 use std::alloc::{AllocError, Global};
-use std::collections::BTreeSet;
 use std::str;
 
 fn group_items(alloc: Global, built: &Built<'_>) -> Result<Vec<Item>, AllocError>
     ensures says { IfOk result (λ v. v.items ≡ items_of_groups built.now.groups) }
     ensures fit { OnOk result (AllFit (items_of_groups built.now.groups)) }
 {
+    built_groups_have_tables();
+    let _declarations = built.declarations();
     let mut items = Vec::new(alloc);
     push_groups(alloc, built.groups(), &mut items)?;
     Ok(items)
 }
 
 /// The items for what is built of declarations: types and kinds, formats, instructions, and groups.
-fn items_for(
-    alloc: Global,
-    built: &Built<'_>,
-    formats: &BTreeSet<FormatId>,
-) -> Result<Vec<Item>, AllocError>
+fn items_for(alloc: Global, built: &Built<'_>) -> Result<Vec<Item>, Unsaid>
     ensures { IfOk result (λ v. EndWith v.items built.now.groups) }
 {
+    built_groups_have_tables();
     let declarations = built.declarations();
+    let formats = used_formats(alloc, built)?;
     let (mut items, mut words) = (Vec::new(alloc), Words::new(alloc));
     let roots = Roots::of(alloc, declarations, &mut words, &mut items)?;
-    let kinds = Kinds::of(alloc, declarations, formats, roots, &mut words, &mut items)?;
-    let format_words = FormatWords::of(alloc, declarations, formats, &kinds, &mut items)?;
+    let kinds = Kinds::of(alloc, declarations, &formats, roots, &mut words, &mut items)?;
+    let format_words = FormatWords::of(alloc, declarations, &formats, &kinds, &mut items)?;
     push_insts(alloc, built, &kinds, &format_words, &mut items)?;
     push_groups(alloc, built.groups(), &mut items)?;
     Ok(items)
 }
 
-/// The items for what is built of declarations, if items can say the kinds of the formats in use. If there are no instructions, no format
-/// is in use.
+/// The items for what is built of declarations, if items can say it. If there are no instructions, no format is in use.
 fn tried_items(alloc: Global, built: &Built<'_>) -> Result<Option<Vec<Item>>, AllocError>
     ensures settings { built.now.instructions ≡ []
         → IfOk result (λ o. option_map (λ v. v.items) o ≡ Some (items_of_groups built.now.groups)) }
@@ -63,9 +62,10 @@ fn tried_items(alloc: Global, built: &Built<'_>) -> Result<Option<Vec<Item>>, Al
     if built.instructions().is_empty() {
         return Ok(Some(group_items(alloc, built)?));
     }
-    match used_formats(alloc, built)? {
-        Some(formats) => Ok(Some(items_for(alloc, built, &formats)?)),
-        None => Ok(None),
+    match items_for(alloc, built) {
+        Ok(items) => Ok(Some(items)),
+        Err(Unsaid::Memory) => Err(AllocError),
+        Err(Unsaid::Unsayable) => Ok(None),
     }
 }
 
@@ -73,9 +73,9 @@ fn tried_items(alloc: Global, built: &Built<'_>) -> Result<Option<Vec<Item>>, Al
 /// that isn't a plain type's, kinds, the formats in use, the instructions, and the groups. Settings stand in the order of their layout, and
 /// presets name the booleans that they turn on.
 ///
-/// The items are made, declared and compared. `None` comes if they would declare something else or be refused. That is so if the kind of a
-/// format's field is of values whose variable is of another registry. It is also so if more functions lead from its root to a variable than
-/// a type can have, or if some do and the root's name has more than 4,096 bytes.
+/// The items are made, declared and compared. `None` comes if something has no word, as the kind of a format's field whose values have a
+/// variable of another registry. It also comes if the items would declare something else or be refused. That is so if more functions lead
+/// from its root to a variable than a type can have, or if some do and the root's name has more than 4,096 bytes.
 pub fn describe(alloc: Global, built: &Built<'_>) -> Result<Option<Vec<Item>>, AllocError>
     // What the items declare has the same tables and the same texts.
     ensures describes { IfOk result (λ o. IfSome o (λ v. Describes v.items built.now.declared)) }
@@ -129,7 +129,8 @@ fn text_of(alloc: Global, bytes: &[u8]) -> Result<String, AllocError>
 
 /// The text of a file that describes declarations, of which this is built, by the items that `describe` makes.
 ///
-/// The text is made, read, declared and compared. `None` comes where it would declare something else or be refused.
+/// The text is made, read, declared and compared. `None` comes if something has no word, or if the text would declare something else or be
+/// refused.
 pub fn write_description(alloc: Global, built: &Built<'_>) -> Result<Option<String>, AllocError>
     // The text reads as items that declare what has the same tables and the same texts.
     ensures describes { IfOk result (λ o. IfSome o (λ text. IsDescription (string_bytes text) built.now.declared)) }

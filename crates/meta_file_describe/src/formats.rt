@@ -3,6 +3,7 @@ ghost use Rattle.meta_file_syntax.specs.declared.formats.Slot.TheVariants as slo
 
 use super::kinds::Kinds;
 use super::texts::{begins_as_name, bytes_of, unless_same};
+use super::unsaid::Unsaid;
 use super::words::Words;
 use meta_build::{Built, Declarations};
 use meta_file_syntax::{Bytes, FormatItem, Item, Listed, Slot};
@@ -10,28 +11,25 @@ use meta_operands::{FormatId, InstructionFormat, OperandKindFields};
 use std::alloc::{AllocError, Global};
 use std::collections::{BTreeMap, BTreeSet};
 
-/// The formats in use. `None` if one isn't of the declarations, or a kind of its fields has a variable of another registry.
-pub(crate) fn used_formats(
-    alloc: Global,
-    built: &Built<'_>,
-) -> Result<Option<BTreeSet<FormatId>>, AllocError> {
+/// The formats in use. If a kind of their fields has a variable of another registry, they are unsayable.
+pub(crate) fn used_formats(alloc: Global, built: &Built<'_>) -> Result<BTreeSet<FormatId>, Unsaid> {
     let declarations = built.declarations();
     let (vars, table) = (declarations.vars(), declarations.formats());
     let mut used = BTreeSet::new(alloc);
     for id in built.formats() {
         if !table.is_of(*id) {
-            return Ok(None);
+            return Err(Unsaid::Unsayable);
         }
         for field in table.get(*id).imm_fields.as_slice() {
             if let OperandKindFields::TypeVar(variable) = field.kind.fields {
                 if !vars.is_of(variable) {
-                    return Ok(None);
+                    return Err(Unsaid::Unsayable);
                 }
             }
         }
         used.insert(*id)?;
     }
-    Ok(Some(used))
+    Ok(used)
 }
 
 fn push_words(
@@ -54,7 +52,7 @@ fn slots_of(
     alloc: Global,
     kinds: &Kinds<'_>,
     format: &InstructionFormat,
-) -> Result<Vec<Slot>, AllocError> {
+) -> Result<Vec<Slot>, Unsaid> {
     let mut slots = Vec::new(alloc);
     for place in 0..format.num_value_operands as usize {
         if place != 0 && format.typevar_operand == Some(place) {
@@ -89,7 +87,7 @@ impl FormatWords {
         formats: &BTreeSet<FormatId>,
         kinds: &Kinds<'_>,
         items: &mut Vec<Item>,
-    ) -> Result<FormatWords, AllocError> {
+    ) -> Result<FormatWords, Unsaid> {
         let mut given = FormatWords {
             words: BTreeMap::new(alloc),
         };
@@ -112,11 +110,10 @@ impl FormatWords {
         Ok(given)
     }
 
-    /// The word of a format in use. For another format the error is the same as if memory ran out.
-    pub(crate) fn word(&self, alloc: Global, id: FormatId) -> Result<Bytes, AllocError> {
+    pub(crate) fn word(&self, alloc: Global, id: FormatId) -> Result<Bytes, Unsaid> {
         match self.words.get(&id) {
-            Some(word) => word.copy(alloc),
-            None => Err(AllocError),
+            Some(word) => Ok(word.copy(alloc)?),
+            None => Err(Unsaid::Unsayable),
         }
     }
 }

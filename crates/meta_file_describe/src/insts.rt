@@ -4,13 +4,14 @@ ghost use Rattle.meta_operands.specs.Operand.{variable_of};
 use super::formats::FormatWords;
 use super::kinds::Kinds;
 use super::texts::{docs_of, name_of, unless_same};
+use super::unsaid::Unsaid;
 use meta_build::Built;
 use meta_file_syntax::{InstItem, Item, Listed, Mark, Property};
 use meta_inst::InstructionContent;
 use meta_operands::{Operand, OperandKind};
 use meta_types::Text;
 use meta_typevar::{TypeVar, TypeVars};
-use std::alloc::{AllocError, Global};
+use std::alloc::Global;
 
 fn is_of(vars: &TypeVars, operand: &Operand) -> bool
     ensures { IsTrue result → (tv : ℕ) → variable_of operand.now ≡ Some tv → tv < length vars.now }
@@ -21,19 +22,18 @@ fn is_of(vars: &TypeVars, operand: &Operand) -> bool
     }
 }
 
-/// The documentation of an operand. If its variable isn't of the registry, the error is the same as if memory ran out.
-fn doc_of(alloc: Global, vars: &TypeVars, operand: &Operand) -> Result<Text, AllocError> {
+fn doc_of(alloc: Global, vars: &TypeVars, operand: &Operand) -> Result<Text, Unsaid> {
     if !is_of(vars, operand) {
-        return Err(AllocError);
+        return Err(Unsaid::Unsayable);
     }
-    Text::new(alloc, operand.doc(vars))
+    Ok(Text::new(alloc, operand.doc(vars))?)
 }
 
 pub(crate) fn default_doc(
     alloc: Global,
     vars: &TypeVars,
     kind: &OperandKind,
-) -> Result<Text, AllocError> {
+) -> Result<Text, Unsaid> {
     let operand = Operand::new(Text::new(alloc, "")?, kind.copy(alloc)?);
     doc_of(alloc, vars, &operand)
 }
@@ -43,7 +43,7 @@ fn operands_of(
     alloc: Global,
     kinds: &Kinds<'_>,
     operands: &[Operand],
-) -> Result<Vec<meta_file_syntax::Operand>, AllocError> {
+) -> Result<Vec<meta_file_syntax::Operand>, Unsaid> {
     let vars = kinds.roots().vars();
     let mut listed = Vec::new(alloc);
     for operand in operands {
@@ -64,7 +64,7 @@ fn marks_of(
     kinds: &Kinds<'_>,
     inst: &InstructionContent,
     second: Option<TypeVar>,
-) -> Result<Option<Listed<Mark>>, AllocError> {
+) -> Result<Option<Listed<Mark>>, Unsaid> {
     let ends = inst.is_terminator() && !inst.is_branch() && !inst.is_return();
     let properties = [
         (ends, Property::TerminatesBlock),
@@ -102,7 +102,7 @@ fn inst_of(
     formats: &FormatWords,
     inst: &InstructionContent,
     second: Option<TypeVar>,
-) -> Result<InstItem, AllocError> {
+) -> Result<InstItem, Unsaid> {
     Ok(InstItem {
         docs: docs_of(alloc, inst.doc().as_bytes())?,
         name: name_of(alloc, inst.name().as_bytes())?,
@@ -119,7 +119,7 @@ pub(crate) fn push_insts(
     kinds: &Kinds<'_>,
     formats: &FormatWords,
     items: &mut Vec<Item>,
-) -> Result<(), AllocError> {
+) -> Result<(), Unsaid> {
     let instructions = built.declarations().instructions();
     for (place, inst) in built.instructions().iter().enumerate() {
         let second = if place < instructions.len() {

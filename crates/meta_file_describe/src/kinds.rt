@@ -4,22 +4,19 @@ ghost use Rattle.meta_file_types.specs.Texts.{field_or};
 use super::insts::default_doc;
 use super::roots::Roots;
 use super::texts::{begins_as_name, bytes_of, docs_of, name_of, snake_case};
+use super::unsaid::Unsaid;
 use super::words::{NameCounts, Words};
 use meta_build::Declarations;
 use meta_file_syntax::{
     Bytes, Docs, EnumValue, Item, KindItem, Listed, Name, Sort, TypeExpr, write_items,
 };
-use meta_file_types::Types;
+use meta_file_types::GivenKind;
 use meta_operands::{FormatId, Operand, OperandKind, OperandKindFields};
 use meta_typevar::TypeVar;
 use std::alloc::{AllocError, Global};
 use std::collections::{BTreeMap, BTreeSet};
 
-fn sort_of(
-    alloc: Global,
-    roots: &Roots<'_>,
-    fields: &OperandKindFields,
-) -> Result<Sort, AllocError> {
+fn sort_of(alloc: Global, roots: &Roots<'_>, fields: &OperandKindFields) -> Result<Sort, Unsaid> {
     match fields {
         OperandKindFields::EntityRef => Ok(Sort::Entity),
         OperandKindFields::VariableArgs => Ok(Sort::Varargs),
@@ -54,7 +51,7 @@ fn kind_item(
     roots: &Roots<'_>,
     kind: &OperandKind,
     word: Bytes,
-) -> Result<KindItem, AllocError>
+) -> Result<KindItem, Unsaid>
     ensures word { IfOk result (λ item. item.word ≡ word) }
     ensures field { IfOk result (λ item. field_or item.word item.field ≡ kind.now.rust_field_name) }
     ensures rust { IfOk result (λ item. item.rust ≡ kind.now.rust_type) }
@@ -77,13 +74,17 @@ fn kind_item(
 }
 
 /// What tells a kind from others: the text of its item without a word.
-fn key_of(alloc: Global, roots: &Roots<'_>, kind: &OperandKind) -> Result<Vec<u8>, AllocError> {
+fn key_of(alloc: Global, roots: &Roots<'_>, kind: &OperandKind) -> Result<Vec<u8>, Unsaid> {
     let item = kind_item(alloc, roots, kind, bytes_of(alloc, b"")?)?;
-    write_items(alloc, &[Item::Kind(item)])
+    Ok(write_items(alloc, &[Item::Kind(item)])?)
 }
 
-/// The words of the kinds that are there before any item.
-const GIVEN_WORDS: [&[u8]; 3] = [b"block", b"raw_block", b"varargs"];
+/// The kinds that exist before any item, and their words.
+const GIVEN: [(GivenKind, &[u8]); 3] = [
+    (GivenKind::Block, b"block"),
+    (GivenKind::RawBlock, b"raw_block"),
+    (GivenKind::Varargs, b"varargs"),
+];
 
 /// The variable of values of a type, if the kind says no more of them.
 fn plain_variable(kind: &OperandKind) -> Option<TypeVar> {
@@ -125,7 +126,7 @@ impl<'d> UsedKinds<'d> {
         roots: &Roots<'_>,
         given: &BTreeMap<Vec<u8>, Bytes>,
         operands: &'d [Operand],
-    ) -> Result<(), AllocError> {
+    ) -> Result<(), Unsaid> {
         for operand in operands {
             if plain_variable(&operand.kind).is_none() {
                 let key = key_of(alloc, roots, &operand.kind)?;
@@ -145,7 +146,7 @@ fn used_kinds<'d>(
     formats: &BTreeSet<FormatId>,
     roots: &Roots<'_>,
     given: &BTreeMap<Vec<u8>, Bytes>,
-) -> Result<UsedKinds<'d>, AllocError> {
+) -> Result<UsedKinds<'d>, Unsaid> {
     let mut used = UsedKinds {
         known: BTreeSet::new(alloc),
         kinds: Vec::new(alloc),
@@ -175,7 +176,7 @@ fn word_for(
     words: &mut Words,
     fields: &NameCounts,
     kind: &OperandKind,
-) -> Result<Bytes, AllocError> {
+) -> Result<Bytes, Unsaid> {
     let field = kind.rust_field_name.as_bytes();
     if begins_as_name(field) && fields.has_one(field) {
         return words.give(alloc, field, true);
@@ -197,13 +198,9 @@ pub(crate) struct Kinds<'d> {
 }
 
 impl<'d> Kinds<'d> {
-    fn add_given(&mut self, alloc: Global) -> Result<(), AllocError> {
-        let types = Types::new(alloc);
-        for word in GIVEN_WORDS {
-            let Ok(kind) = types.kind_named(alloc, word) else {
-                return Err(AllocError);
-            };
-            let key = key_of(alloc, &self.roots, &kind)?;
+    fn add_given(&mut self, alloc: Global) -> Result<(), Unsaid> {
+        for (given, word) in GIVEN {
+            let key = key_of(alloc, &self.roots, &given.kind(alloc)?)?;
             self.given.insert(key, bytes_of(alloc, word)?)?;
         }
         Ok(())
@@ -217,7 +214,7 @@ impl<'d> Kinds<'d> {
         roots: Roots<'d>,
         words: &mut Words,
         items: &mut Vec<Item>,
-    ) -> Result<Kinds<'d>, AllocError> {
+    ) -> Result<Kinds<'d>, Unsaid> {
         let mut kinds = Kinds {
             roots,
             given: BTreeMap::new(alloc),
@@ -238,16 +235,12 @@ impl<'d> Kinds<'d> {
         &self.roots
     }
 
-    /// The word of the kind of a format's field. For another kind the error is the same as if memory ran out.
-    pub(crate) fn field_word(
-        &self,
-        alloc: Global,
-        kind: &OperandKind,
-    ) -> Result<Bytes, AllocError> {
+    /// The word of the kind of a format's field.
+    pub(crate) fn field_word(&self, alloc: Global, kind: &OperandKind) -> Result<Bytes, Unsaid> {
         let key = key_of(alloc, &self.roots, kind)?;
         match self.declared.get(&key) {
-            Some(word) => word.copy(alloc),
-            None => Err(AllocError),
+            Some(word) => Ok(word.copy(alloc)?),
+            None => Err(Unsaid::Unsayable),
         }
     }
 
@@ -255,7 +248,7 @@ impl<'d> Kinds<'d> {
         &self,
         alloc: Global,
         kind: &OperandKind,
-    ) -> Result<TypeExpr, AllocError> {
+    ) -> Result<TypeExpr, Unsaid> {
         if let Some(variable) = plain_variable(kind) {
             return self.roots.type_expr(alloc, variable);
         }

@@ -13,6 +13,7 @@ mod roots;
 mod sets;
 mod settings;
 mod texts;
+mod unsaid;
 mod words;
 
 pub use checking::is_described;

@@ -2,6 +2,7 @@ ghost use Rattle.std.specs.Prelude.{◌<◌, length};
 
 use super::sets::set_of;
 use super::texts::{begins_as_name, bytes_of, docs_of, unless_same};
+use super::unsaid::Unsaid;
 use super::words::{NameCounts, Words};
 use meta_build::Declarations;
 use meta_file_syntax::{Bytes, Item, Listed, TypeExpr, TypeItem};
@@ -105,9 +106,9 @@ impl<'d> Roots<'d> {
         alloc: Global,
         names: &mut RootNames,
         root: TypeVar,
-    ) -> Result<(), AllocError> {
+    ) -> Result<(), Unsaid> {
         if !self.vars.is_of(root) {
-            return Err(AllocError);
+            return Err(Unsaid::Unsayable);
         }
         let name = self.vars.content(root).name.as_bytes();
         if is_plain(alloc, self.vars, root)? && !names.plain.contains(name) {
@@ -115,7 +116,7 @@ impl<'d> Roots<'d> {
             self.words.insert(root, bytes_of(alloc, name)?)?;
             return Ok(());
         }
-        names.others.add(alloc, name)
+        Ok(names.others.add(alloc, name)?)
     }
 
     /// Gives a root a word, and adds its item, if it stands for no plain type.
@@ -126,7 +127,7 @@ impl<'d> Roots<'d> {
         words: &mut Words,
         items: &mut Vec<Item>,
         root: TypeVar,
-    ) -> Result<(), AllocError> {
+    ) -> Result<(), Unsaid> {
         if !self.vars.is_of(root) || self.words.contains_key(&root) {
             return Ok(());
         }
@@ -151,7 +152,7 @@ impl<'d> Roots<'d> {
         declarations: &'d Declarations,
         words: &mut Words,
         items: &mut Vec<Item>,
-    ) -> Result<Roots<'d>, AllocError> {
+    ) -> Result<Roots<'d>, Unsaid> {
         let used = used_roots(alloc, declarations)?;
         let mut roots = Roots {
             vars: declarations.vars(),
@@ -170,17 +171,13 @@ impl<'d> Roots<'d> {
         Ok(roots)
     }
 
-    /// The type of a variable in use. For another variable the error is the same as if memory ran out.
-    pub(crate) fn type_expr(
-        &self,
-        alloc: Global,
-        variable: TypeVar,
-    ) -> Result<TypeExpr, AllocError> {
+    /// The type of a variable in use.
+    pub(crate) fn type_expr(&self, alloc: Global, variable: TypeVar) -> Result<TypeExpr, Unsaid> {
         if !self.vars.is_of(variable) {
-            return Err(AllocError);
+            return Err(Unsaid::Unsayable);
         }
         let Some(word) = self.words.get(&variable.root(self.vars)) else {
-            return Err(AllocError);
+            return Err(Unsaid::Unsayable);
         };
         let chain = variable.chain(alloc, self.vars)?;
         let mut functions = Vec::new(alloc);

@@ -1,8 +1,9 @@
-ghost use Rattle.std.specs.Prelude.{◌≡◌, ◌++◌, IfOk, OnOk, map};
-ghost use Rattle.meta_settings.specs.PresetLayout.{names_turned_on};
+ghost use Rattle.std.specs.Prelude.{◌≡◌, ◌++◌, ℕ, IfOk, OnOk, Some, map, slice_get};
+ghost use Rattle.meta_settings.specs.Layout.{Layout};
+ghost use Rattle.meta_settings.specs.PresetLayout.{HasAll, names_turned_on};
 ghost use Rattle.meta_file_reader.specs.Fits.{Fits, Every};
 ghost use Rattle.meta_file_describe.specs.Wording.{name_for};
-ghost use Rattle.meta_file_describe.specs.SettingItems.{item_of_setting, item_of_preset, items_of_group, items_of_groups};
+ghost use Rattle.meta_file_describe.specs.SettingItems.{item_of_setting, item_of_preset, items_of_group, items_of_groups, HasItsBooleans};
 
 use super::texts::{docs_of, name_of, unless_same};
 use meta_file_syntax::{BoolItem, EnumItem, Item, Listed, Name, NumItem, PresetItem};
@@ -49,13 +50,11 @@ fn setting_of(alloc: Global, setting: &Setting) -> Result<Item, AllocError>
     }
 }
 
-/// The names of the booleans that a preset turns on. If the preset isn't of the group, the error is the same as if memory ran out.
+/// The names of the booleans that a preset of the group turns on.
 fn args_of(alloc: Global, group: &SettingGroup, preset: &Preset) -> Result<Vec<Name>, AllocError>
+    requires { HasAll group.now preset.now }
     ensures { IfOk result (λ names. names.items ≡ map name_for (names_turned_on group.now preset.now)) }
 {
-    if !group.has(preset) {
-        return Err(AllocError);
-    }
     let mut args = Vec::new(alloc);
     for name in preset.setting_names(group) {
         args.push(name_of(alloc, name.as_bytes())?)?;
@@ -64,6 +63,7 @@ fn args_of(alloc: Global, group: &SettingGroup, preset: &Preset) -> Result<Vec<N
 }
 
 fn preset_of(alloc: Global, group: &SettingGroup, preset: &Preset) -> Result<Item, AllocError>
+    requires { HasAll group.now preset.now }
     ensures { IfOk result (λ item. item ≡ item_of_preset group.now preset.now) }
 {
     Ok(Item::Preset(PresetItem {
@@ -75,6 +75,7 @@ fn preset_of(alloc: Global, group: &SettingGroup, preset: &Preset) -> Result<Ite
 
 /// Adds the items of a group, its settings in the order of its layout, and its presets.
 fn push_group(alloc: Global, group: &SettingGroup, items: &mut Vec<Item>) -> Result<(), AllocError>
+    requires { HasItsBooleans group.now }
     ensures adds { OnOk result (items.new.items ≡ items.old.items ++ items_of_group group.now) }
     ensures fit { OnOk result (Every Fits (items_of_group group.now)) }
 {
@@ -93,6 +94,7 @@ pub(crate) fn push_groups(
     groups: &[SettingGroup],
     items: &mut Vec<Item>,
 ) -> Result<(), AllocError>
+    requires { (k : ℕ) (g : Layout) → slice_get groups.now k ≡ Some g → HasItsBooleans g }
     ensures adds { OnOk result (items.new.items ≡ items.old.items ++ items_of_groups groups.now) }
     ensures fit { OnOk result (Every Fits (items_of_groups groups.now)) }
 {

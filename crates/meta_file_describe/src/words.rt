@@ -6,6 +6,7 @@ ghost use Rattle.meta_file_describe.specs.Counted.{count_of};
 ghost use Rattle.meta_file_describe.specs.GivenWords.{is_given};
 
 use super::texts::{bytes_of, is_word};
+use super::unsaid::Unsaid;
 use meta_file_syntax::Bytes;
 use meta_file_types::has_own_meaning;
 use std::alloc::{AllocError, Global};
@@ -58,7 +59,7 @@ impl Words {
     }
 
     /// The next number with which the name is free, and the word that they are.
-    fn next_numbered(&self, alloc: Global, name: &[u8]) -> Result<(usize, Vec<u8>), AllocError>
+    fn next_numbered(&self, alloc: Global, name: &[u8]) -> Result<(usize, Vec<u8>), Unsaid>
         ensures word { IfOk result (λ next. IsWord next.1.items) }
         ensures new { IfOk result (λ next. is_given self.now next.1.items ≡ false) }
         ensures meaning { IfOk result (λ next. has_own_meaning next.1.items ≡ false) }
@@ -73,7 +74,7 @@ impl Words {
                 return Ok((before + 1, word));
             }
         }
-        Err(AllocError)
+        Err(Unsaid::Unsayable)
     }
 
     /// A word for what has this name: the name itself if nothing else has it and it can be given, or else the name with a number after it.
@@ -83,7 +84,7 @@ impl Words {
         alloc: Global,
         name: &[u8],
         is_alone: bool,
-    ) -> Result<Bytes, AllocError>
+    ) -> Result<Bytes, Unsaid>
         ensures word { IfOk result IsWord }
         ensures meaning { IfOk result (λ word. has_own_meaning word ≡ false) }
         // No other has the word, and the words that are given stay so.
@@ -93,7 +94,7 @@ impl Words {
     {
         if is_alone && self.is_free(name) {
             self.keep(alloc, name, 0)?;
-            return bytes_of(alloc, name);
+            return Ok(bytes_of(alloc, name)?);
         }
         let (number, word) = self.next_numbered(alloc, name)?;
         self.keep(alloc, name, number)?;
