@@ -91,6 +91,19 @@ done << 'RUNS'
 1 empty out ciderlater -d wrong.isa tables
 6 empty out ciderlater check long.txt
 7 empty out ciderlater -d twelve.isa tables --version 1
+0 first.txt out ciderlater explain
+0 first.txt out ciderlater -d twelve.isa explain
+2 first.txt out ciderlater explain --why
+3 . out ciderlater explain
+4 first.txt /dev/full ciderlater explain
+6 long.txt out ciderlater explain
+0 list.txt out ciderlater verify --why
+7 wrong.txt out ciderlater verify --why
+2 list.txt out ciderlater verify --why list.txt
+0 list.txt out ciderlater asm short --why
+7 wrong.txt out ciderlater asm short --why
+7 list.txt out ciderlater asm explicit --why
+2 list.txt out ciderlater asm --why
 8 empty out ciderlater check none.isa
 8 empty out ciderlater -d none.isa tables
 8 empty out ciderlater -d folder.isa tables

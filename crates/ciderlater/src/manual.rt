@@ -18,12 +18,17 @@ Commands:
   instructions    the formats, opcodes and data of instructions as Rust source
   builder         the builder of instructions as Rust source
   query           an answer to each line of standard input
+  explain         the answers of query, and why types are refused;
+                  and which types an instruction takes, which instructions take types, and which instructions there are
   recheck         same, different or refused, as what the text of tables in standard input reads as;
                   then the answers of those tables to the lines after the line `// Queries.`
   synth N         a line on the tables of the declarations that are made from a number
   verify          ok, or which line of the list in standard input is the first wrong one, and why
+  verify --why    the same, and of a refused line which part doesn't fit, what it has, and what it has to be
   asm short       the list in standard input with the types left out that the others tell
   asm explicit    such a list with all types
+  asm short --why, asm explicit --why
+                  the same; a refused line is told as verify --why tells it
   flags           the settings, set and told by name in standard input
   audit           whether the tables in standard input mean what is declared
   check           ok, and how many instructions, formats, type sets, constraints, and settings and presets there are

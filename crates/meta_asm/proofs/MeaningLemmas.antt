@@ -3,15 +3,20 @@ use Rattle.std.proofs.Common.{◌↔◌, ℕ, Bool, true, false, List, [], ◌�
 use Rattle.meta_lines.specs.Lines.{lines_of}
 use Rattle.meta_inst.specs.InstructionSet.{InstructionSet}
 use Rattle.meta_inst.specs.Tables.{TableContents}
+use Rattle.meta_build.specs.AllDeclared.{Declared}
 use Rattle.meta_gen.specs.Reply.{AllowedReply, AcceptedReply}
 use Rattle.meta_verify.specs.Statement.{defined_by}
 use Rattle.meta_verify.specs.Environment.{Environment, nothing_defined, with_values, HasNamedTypes}
 use Rattle.meta_verify.specs.Verdict.{IsVerdict}
+use Rattle.meta_verify.specs.Why.{IsExplainedVerdict, explained_verdicts}
 use Rattle.meta_verify.proofs.StatementLemmas.{one_statement}
 use Rattle.meta_verify.proofs.Meaning.{all_named, results_typed, nothing_named}
 use Rattle.meta_asm.specs.Manners.{IsMannerIn, IsMannerDeclared}
 use Rattle.meta_asm.specs.Reading.{IsShortIn, IsShortDeclared}
 use Rattle.meta_asm.specs.Listing.{filled, AreShort, IsFirstUnread, IsShortened, IsSpelled}
+use Rattle.meta_asm.specs.Form.{written_in}
+use Rattle.meta_asm.specs.Why.{IsExplainedShort, explained_in}
+use Rattle.meta_asm.specs.declared.form.Form.TheVariants.{Short}
 
 module _ (d : InstructionSet) (tables : TableContents) (means : (env : Environment) → HasNamedTypes env → (line text : List ℕ)
     → (IsShortIn tables env line text ↔ IsShortDeclared d env line text)) where
@@ -59,3 +64,12 @@ module _ (d : InstructionSet) (tables : TableContents) (means : (env : Environme
     shortened_means input false text (texts, (env, short), is) =
         (texts, (env, (all_mean nothing_defined env (filled (lines_of input)) texts nothing_named short).0), is)
     shortened_means input true text h = verdict_means input true text h
+
+-- the same with what is told of a refusal
+pub explained_short_means : (d : Declared) (tables : TableContents) → ((input : List ℕ) (text : List ℕ)
+    → IsShortened (AllowedReply tables) (IsMannerIn tables) input false text → written_in Short d input false text)
+    → ((input : List ℕ) (text : List ℕ) → IsExplainedVerdict (AllowedReply tables) tables input true text
+    → explained_verdicts d input true text) → (input : List ℕ) (is_rejection : Bool) (text : List ℕ)
+    → IsExplainedShort (AllowedReply tables) (IsMannerIn tables) tables input is_rejection text → explained_in Short d input is_rejection text
+explained_short_means d tables short told input false text h = short input text h
+explained_short_means d tables short told input true text h = told input text h

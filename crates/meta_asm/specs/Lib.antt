@@ -9,4 +9,5 @@ pub mod Written
 pub mod Read
 pub mod Listing
 pub mod Form
+pub mod Why
 pub mod Assembler

@@ -4,7 +4,7 @@ ghost use Rattle.meta_asm.specs.Form.{words_for, written_in};
 ghost use Rattle.meta_asm.specs.Assembler.{ShortensList, SpellsList, WritesBack};
 
 use super::form::Form;
-use super::listing::{shortened, spelled};
+use super::listing::{explained_short, shortened, spelled};
 use super::short_laws::short_forms_mean;
 use meta_build::{Built, Declarations, one_first_fault};
 use meta_gen::tables_of;
@@ -33,6 +33,38 @@ impl Answerer for Form {
         let tables = tables_of(alloc, built)?;
         match self {
             Form::Short => shortened(alloc, &tables, input),
+            Form::Explicit => spelled(alloc, &tables, input),
+        }
+    }
+}
+
+/// The answerer of `asm` that also tells why a line is refused: it answers an input in the form as the form does, but for what it tells
+/// after `refused`.
+#[derive(Clone, Copy)]
+pub struct ExplainedForm {
+    /// The form.
+    pub form: Form,
+}
+
+impl Answerer for ExplainedForm {
+    ghost use Rattle.std.specs.Prelude.{true};
+    ghost use Rattle.meta_asm.specs.Why.{explained_in};
+
+    ghost reads = { λ _. true };
+
+    ghost texts = { λ x. explained_in x.form };
+
+    fn has_input(&self) -> bool {
+        true
+    }
+
+    fn answer(&self, alloc: Global, built: &Built<'_>, input: &[u8]) -> Result<Answer, AllocError> {
+        verdicts_mean();
+        short_forms_mean();
+        let _declarations = built.declarations();
+        let tables = tables_of(alloc, built)?;
+        match self.form {
+            Form::Short => explained_short(alloc, &tables, input),
             Form::Explicit => spelled(alloc, &tables, input),
         }
     }

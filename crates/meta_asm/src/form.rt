@@ -25,7 +25,8 @@ impl Form {
         }
     }
 
-    fn named(name: &[u8]) -> Option<Form>
+    /// The form that has the name. It is `None` exactly if no form has it.
+    pub fn named(name: &[u8]) -> Option<Form>
         ensures some { IfSome result (λ form. name.now ≡ form_name form) }
         ensures none { IfNone result ((form : spec.Form) → name.now ≢ form_name form) }
     {

@@ -19,9 +19,9 @@ mod short_laws;
 mod words;
 mod written;
 
-pub use assembler::asm;
+pub use assembler::{ExplainedForm, asm};
 pub use form::Form;
-pub use laws::{lists_are_written_back, one_form, one_output_of_a_form};
+pub use laws::{explained_forms_are_forms, lists_are_written_back, one_form, one_output_of_a_form};
 pub use manner::Manner;
 pub use meta_run::Ending as AsmStatus;
 pub use print::{print_line, push_line, push_short};

@@ -11,6 +11,7 @@ mod LeastSets
 mod Least
 mod ItemTexts
 mod SetTexts
+mod TextsTell
 mod Replacing
 -- searches
 mod Choosing

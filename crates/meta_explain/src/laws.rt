@@ -8,7 +8,8 @@ ghost use Rattle.meta_explain.specs.Parts.{numbers_of, Accepts, order_of, FailsF
 ghost use Rattle.meta_explain.specs.Operands.{AcceptsSome, MayBe, HasCounts};
 ghost use Rattle.meta_explain.specs.Wanted.{IsExplained};
 ghost use Rattle.meta_explain.specs.Sets.{least_set, is_one_set};
-ghost use Rattle.meta_explain.specs.Texts.{wants_text};
+ghost use Rattle.meta_explain.specs.Listed.{Rising};
+ghost use Rattle.meta_explain.specs.Texts.{alternatives_text, set_text, wants_text};
 ghost use Rattle.meta_explain.specs.declared.control_types.ControlTypes.{ControlTypes};
 ghost use Rattle.meta_explain.specs.declared.part.Part.{Part};
 ghost use Rattle.meta_explain.specs.declared.part.Part.TheVariants.{Control, Second, Operand};
@@ -71,4 +72,11 @@ pub fn sets_are_the_least()
         → IsMember (least_set ns) t → IsMember s t }
     ensures exactly { (ns : List ℕ) → All IsTypeNumber ns
         → (is_one_set ns ≡ true ↔ ((n : ℕ) → (Contains ns n ↔ (IsTypeNumber n × IsMember (least_set ns) (type_with n))))) }
+{}
+
+/// A text tells which types it is of: rising lists of types that are written alike, as a set or by their names, are one.
+pub fn texts_tell_the_types()
+    ensures sets { (ns ms : List ℕ) → All IsTypeNumber ns → All IsTypeNumber ms → Rising ns → Rising ms → set_text ns ≡ set_text ms
+        → ns ≡ ms }
+    ensures names { (ns ms : List ℕ) → All IsTypeNumber ns → All IsTypeNumber ms → alternatives_text ns ≡ alternatives_text ms → ns ≡ ms }
 {}

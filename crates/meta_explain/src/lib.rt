@@ -29,8 +29,8 @@ pub use explained::{Explained, Wanted};
 pub use explaining::explain;
 pub use found::Found;
 pub use laws::{
-    a_refusal_fails, one_explanation, operands_are_a_product, sets_are_the_least, types_alone_pass,
-    what_is_wanted_lets_the_part_pass,
+    a_refusal_fails, one_explanation, operands_are_a_product, sets_are_the_least,
+    texts_tell_the_types, types_alone_pass, what_is_wanted_lets_the_part_pass,
 };
 pub use operands::{accepting, accepts_some, find, operand_types};
 pub use part::Part;

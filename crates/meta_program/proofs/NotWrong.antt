@@ -6,18 +6,19 @@ use Rattle.meta_table_text.specs.declared.version.Version.{Version}
 use Rattle.meta_program.specs.TablesIn.{version_word}
 use Rattle.meta_program.specs.declared.plan.Over.{Over}
 use Rattle.meta_program.specs.Wrong.{CheckMore, CheckRustMore, CheckEndMore, CheckRustEndMore, VersionMore, IsFileMissing}
-use Rattle.meta_program.specs.Wrong.{IsTooManyOfShared, IsTooMany, NameNoVersion, BeginWithAsm, IsWrong, IsWrongIfAny}
+use Rattle.meta_program.specs.Wrong.{IsTooManyOfShared, IsTooMany, WhyMore, NameNoVersion, BeginWithAsm, IsWrong, IsWrongIfAny}
 use Rattle.meta_program.specs.Over.{asked_of}
 use Rattle.meta_program.specs.declared.wrong.Wrong.{Wrong}
 use Rattle.meta_program.specs.declared.wrong.Wrong.TheVariants.{FileMissing, WordTooMany, NoVersion, NoForm}
 use Rattle.meta_program.proofs.Words.{first, second}
 
-pub not_wrong : (over : Over) → (IsFileMissing over → ⊥) → ((place : ℕ) → IsTooMany over place → ⊥)
+pub not_wrong : (over : Over) → (IsFileMissing over → ⊥) → ((place : ℕ) → IsTooMany over place → ⊥) → (WhyMore (asked_of over) → ⊥)
     → (NameNoVersion (asked_of over) → ⊥) → (BeginWithAsm (asked_of over) → ⊥) → (wrong : Wrong) → IsWrong over wrong → ⊥
-not_wrong over no_file no_word no_version no_asm FileMissing h = no_file h
-not_wrong over no_file no_word no_version no_asm (WordTooMany place) h = no_word place h
-not_wrong over no_file no_word no_version no_asm NoVersion h = no_version h
-not_wrong over no_file no_word no_version no_asm NoForm h = no_asm h
+not_wrong over no_file no_word no_why no_version no_asm FileMissing h = no_file h
+not_wrong over no_file no_word no_why no_version no_asm (WordTooMany place) (inl h) = no_word place h
+not_wrong over no_file no_word no_why no_version no_asm (WordTooMany place) (inr h) = no_why h.1
+not_wrong over no_file no_word no_why no_version no_asm NoVersion h = no_version h
+not_wrong over no_file no_word no_why no_version no_asm NoForm h = no_asm h
 
 -- what is found is wrong, or nothing is
 pub wrong_if_any : (over : Over) (wrong : Option Wrong) → IfSome wrong (IsWrong over) → IfNone wrong ((w : Wrong) → IsWrong over w → ⊥)

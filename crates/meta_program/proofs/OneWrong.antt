@@ -4,7 +4,7 @@ use Rattle.std.specs.Prelude.{codes, Option, Some, None}
 use Rattle.meta_program.specs.declared.plan.Over.{Over}
 use Rattle.meta_program.specs.declared.plan.Over.TheVariants.{Shared, File}
 use Rattle.meta_program.specs.Wrong.{IsFileMissing, CheckMore, CheckRustMore, CheckEndMore, CheckRustEndMore, VersionMore}
-use Rattle.meta_program.specs.Wrong.{IsTooManyOfShared, IsTooMany, NameNoVersion, BeginWithAsm, IsWrong, IsWrongIfAny}
+use Rattle.meta_program.specs.Wrong.{IsTooManyOfShared, IsTooMany, WhyMore, IsWordTooMany, NameNoVersion, BeginWithAsm, IsWrong, IsWrongIfAny}
 use Rattle.meta_program.specs.Names.{rust_word}
 use Rattle.meta_program.specs.Over.{asked_of, end_word}
 use Rattle.meta_program.specs.declared.wrong.Wrong.{Wrong}
@@ -134,21 +134,57 @@ no_version (File path words) place (inr h) g = g.none h.1.version (ap third (sym
 version_not_asm : (words : List (List ℕ)) → NameNoVersion words → BeginWithAsm words → ⊥
 version_not_asm words h g = let clash : 116 ≡ 97 = ap letter (sym h.begin.are ∙ g.are) in absurd (omega (arith, clash))
 
+-- ---- a word after `verify --why`
+
+verify : (words : List (List ℕ)) → WhyMore words → letter words ≡ 118
+verify words h = ap letter h.are
+
+-- it is one of the words
+pub word_within : (over : Over) (place : ℕ) → IsWordTooMany over place → place < length (asked_of over)
+word_within over place (inl h) = too_many_within over place h
+word_within over place (inr (is, h)) = omega (arith, is, ap length h.are)
+
+why_not_many : (over : Over) (place : ℕ) → IsTooMany over place → WhyMore (asked_of over) → ⊥
+why_not_many over place h g =
+    let v = verify (asked_of over) g in
+    ⊎_elim (λ c. omega (arith, v, c)) (λ t. omega (arith, v, t)) (begin over place h)
+
+missing_not_many : (over : Over) (place : ℕ) → IsFileMissing over → IsWordTooMany over place → ⊥
+missing_not_many over place h (inl g) = missing_few over place h g
+missing_not_many over place h (inr (is, g)) =
+    missing_never over 118 h (verify (asked_of over) g) (λ e. omega (arith, e)) (λ e. omega (arith, e))
+
+one_word : (over : Over) (j k : ℕ) → IsWordTooMany over j → IsWordTooMany over k → j ≡ k
+one_word over j k (inl h) (inl g) = one_place over j k h g
+one_word over j k (inl h) (inr g) = absurd (why_not_many over j h g.1)
+one_word over j k (inr h) (inl g) = absurd (why_not_many over k g h.1)
+one_word over j k (inr h) (inr g) = h.0 ∙ sym g.0
+
+word_no_version : (over : Over) (place : ℕ) → IsWordTooMany over place → NameNoVersion (asked_of over) → ⊥
+word_no_version over place (inl h) g = no_version over place h g
+word_no_version over place (inr h) g =
+    let clash : 118 ≡ 116 = sym (verify (asked_of over) h.1) ∙ ap letter g.begin.are in absurd (omega (arith, clash))
+
+word_not_asm : (over : Over) (place : ℕ) → IsWordTooMany over place → BeginWithAsm (asked_of over) → ⊥
+word_not_asm over place (inl h) g = many_not_asm over place h g
+word_not_asm over place (inr h) g =
+    let clash : 118 ≡ 97 = sym (verify (asked_of over) h.1) ∙ ap letter g.are in absurd (omega (arith, clash))
+
 pub same_wrong : (over : Over) (a b : Wrong) → IsWrong over a → IsWrong over b → a ≡ b
 same_wrong over FileMissing FileMissing h g = refl
-same_wrong over FileMissing (WordTooMany k) h g = absurd (missing_few over k h g)
+same_wrong over FileMissing (WordTooMany k) h g = absurd (missing_not_many over k h g)
 same_wrong over FileMissing NoVersion h g = absurd (not_version over h g)
 same_wrong over FileMissing NoForm h g = absurd (not_asm over h g)
-same_wrong over (WordTooMany j) FileMissing h g = absurd (missing_few over j g h)
-same_wrong over (WordTooMany j) (WordTooMany k) h g = ap WordTooMany (one_place over j k h g)
-same_wrong over (WordTooMany j) NoVersion h g = absurd (no_version over j h g)
-same_wrong over (WordTooMany j) NoForm h g = absurd (many_not_asm over j h g)
+same_wrong over (WordTooMany j) FileMissing h g = absurd (missing_not_many over j g h)
+same_wrong over (WordTooMany j) (WordTooMany k) h g = ap WordTooMany (one_word over j k h g)
+same_wrong over (WordTooMany j) NoVersion h g = absurd (word_no_version over j h g)
+same_wrong over (WordTooMany j) NoForm h g = absurd (word_not_asm over j h g)
 same_wrong over NoVersion FileMissing h g = absurd (not_version over g h)
-same_wrong over NoVersion (WordTooMany k) h g = absurd (no_version over k g h)
+same_wrong over NoVersion (WordTooMany k) h g = absurd (word_no_version over k g h)
 same_wrong over NoVersion NoVersion h g = refl
 same_wrong over NoVersion NoForm h g = absurd (version_not_asm (asked_of over) h g)
 same_wrong over NoForm FileMissing h g = absurd (not_asm over g h)
-same_wrong over NoForm (WordTooMany k) h g = absurd (many_not_asm over k g h)
+same_wrong over NoForm (WordTooMany k) h g = absurd (word_not_asm over k g h)
 same_wrong over NoForm NoVersion h g = absurd (version_not_asm (asked_of over) g h)
 same_wrong over NoForm NoForm h g = refl
 

@@ -9,13 +9,14 @@ use Rattle.meta_lists.proofs.Everywhere.{at_place}
 use Rattle.meta_command_line.specs.Misuse.{AreCommandWords, AreTaken, AreNumbersIn, IsNamed, NamesNoneBefore}
 use Rattle.meta_command_line.specs.declared.manual.CommandForm.{CommandForm}
 use Rattle.meta_query.specs.declared.command.Command.{Command}
-use Rattle.meta_asm.specs.Form.{words_for}
+use Rattle.meta_asm.specs.Form.{form_name}
 use Rattle.meta_program.specs.TablesIn.{version_words}
 use Rattle.meta_program.proofs.Listed.{is_other, no_numbers, others, HaveEntry, listed, IsEntry, of_entry}
-use Rattle.meta_program.specs.Tool.{AskSomething, BeginWithNameOf, HaveWordAfter, lone_name}
+use Rattle.meta_program.specs.Tool.{AskSomething, BeginWithNameOf, HaveWordAfter, lone_name, why_words}
 use Rattle.meta_program.specs.declared.tool.Lone.{Lone}
 use Rattle.meta_program.specs.declared.tool.Lone.TheVariants as lone
-use Rattle.meta_program.specs.declared.tool.Tool.TheVariants.{Run, TablesIn, Verify, Asm, Flags, Audit, Check, Describe}
+use Rattle.meta_program.specs.declared.tool.Why.TheVariants.{Untold, Told}
+use Rattle.meta_program.specs.declared.tool.Tool.TheVariants.{Run, TablesIn, Explain, Verify, Asm, Flags, Audit, Check, Describe}
 
 -- the entries have one of this name, after which no number stands, and none before it has the name
 pub record HavePlainEntry (entries : List CommandForm) (name : List ℕ) : Type 0 where
@@ -40,16 +41,18 @@ taken entries name it words e = record {
 }
 
 pub all_listed : (entries : List CommandForm) → ((c : Command) → HaveEntry entries c)
-    → ((l : Lone) → HavePlainEntry entries (lone_name l)) → (words : List (List ℕ)) → AskSomething words
-    → AreTaken entries words ⊎ HaveWordAfter words
-all_listed entries commands lones words (Run command, h) = inl (listed entries commands words (command, h))
-all_listed entries commands lones words (TablesIn version, h) = inr (inr (version, h))
-all_listed entries commands lones words (Verify, h) = inl (taken entries (codes "verify") (lones lone.Verify) words h)
-all_listed entries commands lones words (Asm form, h) = inr (inl (form, h))
-all_listed entries commands lones words (Flags, h) = inl (taken entries (codes "flags") (lones lone.Flags) words h)
-all_listed entries commands lones words (Audit, h) = inl (taken entries (codes "audit") (lones lone.Audit) words h)
-all_listed entries commands lones words (Check, h) = inl (taken entries (codes "check") (lones lone.Check) words h)
-all_listed entries commands lones words (Describe, h) = inl (taken entries (codes "describe") (lones lone.Describe) words h)
+    → ((l : Lone) → HavePlainEntry entries (lone_name l)) → HavePlainEntry entries (codes "verify")
+    → (words : List (List ℕ)) → AskSomething words → AreTaken entries words ⊎ HaveWordAfter words
+all_listed entries commands lones verify words (Run command, h) = inl (listed entries commands words (command, h))
+all_listed entries commands lones verify words (TablesIn version, h) = inr (inr (inl (version, h)))
+all_listed entries commands lones verify words (Explain, h) = inl (taken entries (codes "explain") (lones lone.Explain) words h)
+all_listed entries commands lones verify words (Verify Untold, h) = inl (taken entries (codes "verify") verify words h)
+all_listed entries commands lones verify words (Verify Told, h) = inr (inr (inr h))
+all_listed entries commands lones verify words (Asm form why, h) = inr (inl (form, why, h))
+all_listed entries commands lones verify words (Flags, h) = inl (taken entries (codes "flags") (lones lone.Flags) words h)
+all_listed entries commands lones verify words (Audit, h) = inl (taken entries (codes "audit") (lones lone.Audit) words h)
+all_listed entries commands lones verify words (Check, h) = inl (taken entries (codes "check") (lones lone.Check) words h)
+all_listed entries commands lones verify words (Describe, h) = inl (taken entries (codes "describe") (lones lone.Describe) words h)
 
 begins : (entries : List CommandForm) (words : List (List ℕ)) → AreTaken entries words → BeginWithNameOf entries words
 begins entries words h = (h.are.named.place, h.are.command, h.are.after, h.are.named.at, h.are.are)
@@ -59,29 +62,31 @@ named : (entries : List CommandForm) (name : List ℕ) (entry : CommandForm) →
     → words ≡ name ∷ after → BeginWithNameOf entries words
 named entries name entry it words after e = (it.place, entry, after, it.at, e ∙ ap (λ n. n ∷ after) (sym it.name_is))
 
--- The entries begin all words that ask something: those that they list, and, if one is that of `asm` and one that of `tables`, those with
--- another word after the name.
-pub all_named : (entries : List CommandForm) (asm tables : CommandForm) → IsNamed entries (codes "asm") asm
-    → IsNamed entries (codes "tables") tables
+-- The entries begin all words that ask something: those that they list, and, if they have `asm`, `tables` and `verify`, those with another
+-- word after the name.
+pub all_named : (entries : List CommandForm) (asm tables verify : CommandForm) → IsNamed entries (codes "asm") asm
+    → IsNamed entries (codes "tables") tables → IsNamed entries (codes "verify") verify
     → ((words : List (List ℕ)) → AskSomething words → AreTaken entries words ⊎ HaveWordAfter words)
     → (words : List (List ℕ)) → AskSomething words → BeginWithNameOf entries words
-all_named entries asm tables is_asm is_tables all words h = of_listed (all words h)
+all_named entries asm tables verify is_asm is_tables is_verify all words h = of_listed (all words h)
   where
     of_listed : AreTaken entries words ⊎ HaveWordAfter words → BeginWithNameOf entries words
     of_listed (inl it) = begins entries words it
-    of_listed (inr (inl (form, e))) = named entries (codes "asm") asm is_asm words (words_for form) e
-    of_listed (inr (inr (version, e))) = named entries (codes "tables") tables is_tables words (version_words version) e
+    of_listed (inr (inl (form, why, e))) = named entries (codes "asm") asm is_asm words (form_name form ∷ why_words why) e
+    of_listed (inr (inr (inl (version, e)))) = named entries (codes "tables") tables is_tables words (version_words version) e
+    of_listed (inr (inr (inr e))) = named entries (codes "verify") verify is_verify words (why_words Told) e
 
--- the entry is that of a command of `run`, of a tool whose words are its name, or of `asm`
+-- the entry is that of a command of `run`, of a tool whose words are its name, of `verify`, or of `asm`
 abbrev pub IsToolEntry : CommandForm → Type 0
 IsToolEntry entry = IsEntry entry ⊎ (((l : Lone) × (entry.name.now ≡ lone_name l) × (entry.numbers.now ≡ []))
-    ⊎ ((entry.name.now ≡ codes "asm") × (entry.numbers.now ≡ [])))
+    ⊎ (((entry.name.now ≡ codes "verify") × (entry.numbers.now ≡ []))
+    ⊎ ((entry.name.now ≡ codes "asm") × (entry.numbers.now ≡ []))))
 
 abbrev pub AreToolEntries : List CommandForm → Type 0
 AreToolEntries entries = AllByRecursion IsToolEntry entries
 
 lone_words : (l : Lone) (words : List (List ℕ)) → words ≡ lone_name l ∷ [] → AskSomething words
-lone_words lone.Verify words e = (Verify, e)
+lone_words lone.Explain words e = (Explain, e)
 lone_words lone.Flags words e = (Flags, e)
 lone_words lone.Audit words e = (Audit, e)
 lone_words lone.Check words e = (Check, e)
@@ -99,7 +104,8 @@ of_tool_entry entries words h (inl entry) =
     let it = of_entry entries words h entry in
     inl (Run it.0, it.1)
 of_tool_entry entries words h (inr (inl (l, name, none))) = inl (lone_words l words (alone entries words h (lone_name l) name none))
-of_tool_entry entries words h (inr (inr (name, none))) = inr (alone entries words h (codes "asm") name none)
+of_tool_entry entries words h (inr (inr (inl (name, none)))) = inl (Verify Untold, alone entries words h (codes "verify") name none)
+of_tool_entry entries words h (inr (inr (inr (name, none)))) = inr (alone entries words h (codes "asm") name none)
 
 pub all_asked : (entries : List CommandForm) → AreToolEntries entries → (words : List (List ℕ))
     → AreCommandWords entries words → AskSomething words ⊎ (words ≡ codes "asm" ∷ [])

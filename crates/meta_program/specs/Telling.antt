@@ -5,14 +5,15 @@ use Rattle.meta_run.specs.declared.ending.Ending.{Ending}
 use Rattle.meta_run.specs.declared.ending.Ending.TheVariants as ends
 use Rattle.meta_command_line.specs.Telling.{about_text}
 use Rattle.meta_program.specs.declared.tool.Tool.{Tool}
-use Rattle.meta_program.specs.declared.tool.Tool.TheVariants.{Run, TablesIn, Verify, Asm, Flags, Audit, Check, Describe}
+use Rattle.meta_program.specs.declared.tool.Tool.TheVariants.{Run, TablesIn, Explain, Verify, Asm, Flags, Audit, Check, Describe}
 
 -- why a tool rejects; a tool without an input says what of the declarations can't be written
 abbrev pub rejection_text : Tool → Option (List ℕ)
 rejection_text (Run command) = about_text ends.Rejected
 rejection_text (TablesIn version) = Some (codes "the tables don't fit the version")
-rejection_text Verify = about_text ends.Rejected
-rejection_text (Asm form) = about_text ends.Rejected
+rejection_text Explain = about_text ends.Rejected
+rejection_text (Verify why) = about_text ends.Rejected
+rejection_text (Asm form why) = about_text ends.Rejected
 rejection_text Flags = about_text ends.Rejected
 rejection_text Audit = about_text ends.Rejected
 rejection_text Check = about_text ends.Rejected

@@ -11,7 +11,7 @@ use Rattle.meta_program.specs.declared.plan.Over.TheVariants.{Shared, File}
 use Rattle.meta_program.specs.Names.{rust_word}
 use Rattle.meta_program.specs.Over.{IsOption, asked_of, end_word}
 use Rattle.meta_program.specs.TablesIn.{version_word, BeginWithVersion}
-use Rattle.meta_program.specs.Tool.{AskSomething}
+use Rattle.meta_program.specs.Tool.{AskSomething, why_word}
 use Rattle.meta_program.specs.declared.wrong.Wrong.{Wrong}
 use Rattle.meta_program.specs.declared.wrong.Wrong.TheVariants.{FileMissing, WordTooMany, NoVersion, NoForm}
 
@@ -78,6 +78,16 @@ abbrev pub IsTooMany : Over → ℕ → Type 0
 IsTooMany (Shared words) place = IsTooManyOfShared words.now place
 IsTooMany (File path words) place = IsTooManyOfFile words.now place
 
+-- `verify --why`, and a word more: `verify --why WORD ..`
+pub record WhyMore (words : List (List ℕ)) : Type 0 where
+  pub word : List ℕ
+  pub after : List (List ℕ)
+  pub are : words ≡ codes "verify" ∷ (why_word ∷ (word ∷ after))
+
+-- the same, or the word at this place is the first that is too many after `verify --why`
+abbrev pub IsWordTooMany : Over → ℕ → Type 0
+IsWordTooMany over place = IsTooMany over place ⊎ ((place ≡ 2) × WhyMore (asked_of over))
+
 -- `tables --version` and a word that is no version
 pub record NameNoVersion (words : List (List ℕ)) : Type 0 where
   pub begin : BeginWithVersion words
@@ -96,7 +106,7 @@ IsFileMissing (File path words) = ⊥
 -- what is wrong with the words, if they ask nothing
 abbrev pub IsWrong : Over → Wrong → Type 0
 IsWrong over FileMissing = IsFileMissing over
-IsWrong over (WordTooMany place) = IsTooMany over place
+IsWrong over (WordTooMany place) = IsWordTooMany over place
 IsWrong over NoVersion = NameNoVersion (asked_of over)
 IsWrong over NoForm = BeginWithAsm (asked_of over)
 
@@ -124,7 +134,7 @@ abbrev pub Says : List CommandForm → List (List ℕ) → Option Wrong → List
 Says commands words (Some FileMissing) line = SaysFileMissing words line
 Says commands words (Some (WordTooMany place)) line = SaysTooMany commands words place line
 Says commands words (Some NoVersion) line = line ≡ codes "the versions of 'tables' are 1, 2 and 3"
-Says commands words (Some NoForm) line = line ≡ codes "the forms of 'asm' are short and explicit"
+Says commands words (Some NoForm) line = line ≡ codes "the forms of 'asm' are short and explicit, each alone or with --why after it"
 Says commands words None line = IsUsageLine commands words line
 
 -- the line says what is wrong with the words

@@ -21,7 +21,6 @@ ghost use Rattle.meta_program.specs.declared.plan.Plan.{Plan as spec_Plan};
 ghost use Rattle.meta_program.specs.Wrong.{IsWrong, IsWrongIfAny};
 ghost use Rattle.meta_program.specs.declared.wrong.Wrong.{Wrong as spec_Wrong};
 
-use meta_asm::one_form;
 use meta_build::one_first_fault;
 use meta_file_declare::{items_say_one_thing, one_declaration};
 use meta_file_reader::what_is_read;
@@ -33,7 +32,6 @@ pub fn one_tool()
     ensures { (t u : spec_Tool) (words : List (List ℕ)) → AreToolWords t words → AreToolWords u words → t ≡ u }
 {
     one_command();
-    one_form();
 }
 
 /// A text makes at most one list of declarations, and no valid ones if it is refused. It is refused by one message.

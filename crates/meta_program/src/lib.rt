@@ -26,6 +26,6 @@ pub use loading::{LoadError, load};
 pub use paths::shown_path;
 pub use plan::{Names, Over, Plan, is_check, is_end, is_input, is_option, is_rust, path_in};
 pub use told::names_told;
-pub use tool::{Tool, about, is_asm, run_check, run_words};
+pub use tool::{Tool, Why, about, is_asm, is_why, run_check, run_words};
 pub use tool_list::{COMMANDS, listed_tools};
 pub use wrong::{Wrong, wrong_line};

@@ -1,29 +1,39 @@
 ghost use Rattle.std.specs.Prelude.{◌≡◌, ◌≢◌, ◌↔◌, ◌∷◌, [], codes, false, IfSome, IfNone, IsTrue};
 ghost use Rattle.std.specs.Option.{option_copied};
 ghost use Rattle.meta_run.specs.Run.{never_rejecting, Ran, IsRun, Runs};
-ghost use Rattle.meta_asm.specs.Form.{words_for};
 ghost use Rattle.meta_asm.specs.declared.form.Form as spec_form;
 ghost use Rattle.meta_table_text.specs.declared.version.Version as spec_version;
 ghost use Rattle.meta_program.specs.TablesIn.{version_word, version_words};
 ghost use Rattle.meta_program.specs.Telling.{rejection_text, about};
-ghost use Rattle.meta_program.specs.Tool.{AreToolWords, lone_name, reads_input, says_counts, texts_of};
+ghost use Rattle.meta_program.specs.Tool.{AreToolWords, lone_name, why_word, why_words, asm_words, reads_input, says_counts, texts_of};
 ghost use Rattle.meta_program.specs.declared.tool.Tool as spec;
 ghost use Rattle.meta_program.specs.declared.tool.Lone as spec_lone;
+ghost use Rattle.meta_program.specs.declared.tool.Why as spec_why;
 
 use super::laws::one_tool;
 use super::plan::are_for_version;
 use super::written::{counted, described, shown_in};
-use meta_asm::Form;
+use meta_asm::{ExplainedForm, Form};
 use meta_audit::Auditor;
 use meta_build::{Built, Declarations, one_first_fault};
 use meta_flags::Service;
 use meta_query::Command;
+use meta_query_lines::Explainer;
 use meta_run::{Answer, Answerer, Ending, run_answerer};
 use meta_table_text::Version;
 use meta_text::{Sink, Source};
 use meta_types::Text;
-use meta_verify::Verifier;
+use meta_verify::{Explaining, Verifier};
 use std::alloc::{AllocError, Global};
+
+/// What is said of a line of a list that is refused.
+#[derive(Clone, Copy, Debug, PartialEq, Eq)]
+pub enum Why {
+    /// That it is refused.
+    Untold,
+    /// With `--why`: also which part is the first that fails, what it has, and exactly what it has to be.
+    Told,
+}
 
 /// What can be asked over declarations.
 #[derive(Clone, Copy)]
@@ -32,10 +42,12 @@ pub enum Tool {
     Run(Command),
     /// `tables --version N`: the text of the tables in a version, if they fit it.
     TablesIn(Version),
+    /// `explain`: to answer each line, and to say why types are refused.
+    Explain,
     /// `verify`: to check a list of typed lines.
-    Verify,
+    Verify(Why),
     /// `asm short` and `asm explicit`: to write such a list without types that follow from others, and back.
-    Asm(Form),
+    Asm(Form, Why),
     /// `flags`: to set and get settings by name.
     Flags,
     /// `audit`: to say whether tables mean what is declared.
@@ -87,7 +99,7 @@ pub(crate) fn version_asked(words: &[Text]) -> Option<Version>
 /// A tool whose words are its name alone.
 #[derive(Clone, Copy)]
 enum Lone {
-    Verify,
+    Explain,
     Flags,
     Audit,
     Check,
@@ -98,8 +110,8 @@ fn lone_named(name: &[u8]) -> Option<Lone>
     ensures some { IfSome result (λ l. name.now ≡ lone_name l) }
     ensures none { IfNone result ((l : spec_lone.Lone) → name.now ≢ lone_name l) }
 {
-    if name == b"verify".as_slice() {
-        return Some(Lone::Verify);
+    if name == b"explain".as_slice() {
+        return Some(Lone::Explain);
     }
     if name == b"flags".as_slice() {
         return Some(Lone::Flags);
@@ -126,6 +138,13 @@ fn alone(words: &[Text]) -> Option<Lone>
     }
 }
 
+/// Whether the word is `verify`.
+pub(crate) fn is_verify(word: &Text) -> bool
+    ensures { IsTrue result ↔ (word.now ≡ codes "verify") }
+{
+    word.as_bytes() == b"verify".as_slice()
+}
+
 /// Whether the word is `asm`.
 pub fn is_asm(word: &Text) -> bool
     ensures { IsTrue result ↔ (word.now ≡ codes "asm") }
@@ -133,24 +152,51 @@ pub fn is_asm(word: &Text) -> bool
     word.as_bytes() == b"asm".as_slice()
 }
 
-fn asm_form_of(words: &[Text], name: &Text, after: &[Text]) -> Option<Form>
-    requires { words.now ≡ name.now ∷ after.now }
-    ensures some { IfSome result (λ form. words.now ≡ codes "asm" ∷ words_for form) }
-    ensures none { IfNone result ((form : spec_form.Form) → words.now ≢ codes "asm" ∷ words_for form) }
+/// Whether the word asks why a line is refused: `--why`.
+pub fn is_why(word: &Text) -> bool
+    ensures { IsTrue result ↔ (word.now ≡ why_word) }
 {
-    if is_asm(name) {
-        return Form::parse(after);
-    }
-    None
+    word.as_bytes() == b"--why".as_slice()
 }
 
-fn asm_form(words: &[Text]) -> Option<Form>
-    ensures some { IfSome result (λ form. words.now ≡ codes "asm" ∷ words_for form) }
-    ensures none { IfNone result ((form : spec_form.Form) → words.now ≢ codes "asm" ∷ words_for form) }
+impl Why {
+    /// What the words after `verify`, or after the form of `asm`, ask.
+    fn asked(words: &[Text]) -> Option<Why>
+        ensures some { IfSome result (λ why. words.now ≡ why_words why) }
+        ensures none { IfNone result ((why : spec_why.Why) → words.now ≢ why_words why) }
+    {
+        match words {
+            [] => Some(Why::Untold),
+            [word] if is_why(word) => Some(Why::Told),
+            _ => None,
+        }
+    }
+}
+
+/// What is said of a refused line, if the words ask for `verify`.
+fn verify_asked(words: &[Text]) -> Option<Why>
+    ensures some { IfSome result (λ why. words.now ≡ codes "verify" ∷ why_words why) }
+    ensures none { IfNone result ((why : spec_why.Why) → words.now ≢ codes "verify" ∷ why_words why) }
 {
     match words {
-        [] => None,
-        [name, after @ ..] => asm_form_of(words, name, after),
+        [name, after @ ..] if is_verify(name) => Why::asked(after),
+        _ => None,
+    }
+}
+
+/// The form, and what is said of a refused line, if the words ask for `asm`.
+#[tactic(auto, using(crate::proofs::OneTool::other_form, crate::proofs::OneTool::other_why))]
+fn asm_asked(words: &[Text]) -> Option<(Form, Why)>
+    ensures some { IfSome result (λ it. words.now ≡ asm_words it.0 it.1) }
+    ensures none { IfNone result ((f : spec_form.Form) (why : spec_why.Why) → words.now ≢ asm_words f why) }
+{
+    match words {
+        [name, word, after @ ..] if is_asm(name) => {
+            let form = Form::named(word.as_bytes())?;
+            let why = Why::asked(after)?;
+            Some((form, why))
+        }
+        _ => None,
     }
 }
 
@@ -158,7 +204,7 @@ fn tool_of(lone: Lone) -> Tool
     ensures { AreToolWords result (lone_name lone ∷ []) }
 {
     match lone {
-        Lone::Verify => Tool::Verify,
+        Lone::Explain => Tool::Explain,
         Lone::Flags => Tool::Flags,
         Lone::Audit => Tool::Audit,
         Lone::Check => Tool::Check,
@@ -179,8 +225,11 @@ impl Tool {
         if let Some(version) = version_asked(words) {
             return Some(Tool::TablesIn(version));
         }
-        if let Some(form) = asm_form(words) {
-            return Some(Tool::Asm(form));
+        if let Some(why) = verify_asked(words) {
+            return Some(Tool::Verify(why));
+        }
+        if let Some((form, why)) = asm_asked(words) {
+            return Some(Tool::Asm(form, why));
         }
         match alone(words) {
             Some(lone) => Some(tool_of(lone)),
@@ -194,11 +243,11 @@ impl Answerer for Tool {
 
     ghost texts = { texts_of };
 
-    /// Whether there is an input: `query`, `recheck`, `verify`, `asm`, `flags` and `audit` have one.
+    /// Whether there is an input: `query`, `recheck`, `explain`, `verify`, `asm`, `flags` and `audit` have one.
     fn has_input(&self) -> bool {
         match self {
             Tool::Run(command) => command.has_input(),
-            Tool::Verify | Tool::Asm(_) | Tool::Flags | Tool::Audit => true,
+            Tool::Explain | Tool::Verify(_) | Tool::Asm(..) | Tool::Flags | Tool::Audit => true,
             Tool::TablesIn(_) | Tool::Check | Tool::Describe => false,
         }
     }
@@ -207,8 +256,11 @@ impl Answerer for Tool {
         match self {
             Tool::Run(command) => command.answer(alloc, built, input),
             Tool::TablesIn(version) => shown_in(alloc, *version, built),
-            Tool::Verify => Verifier.answer(alloc, built, input),
-            Tool::Asm(form) => form.answer(alloc, built, input),
+            Tool::Explain => Explainer.answer(alloc, built, input),
+            Tool::Verify(Why::Untold) => Verifier.answer(alloc, built, input),
+            Tool::Verify(Why::Told) => Explaining.answer(alloc, built, input),
+            Tool::Asm(form, Why::Untold) => form.answer(alloc, built, input),
+            Tool::Asm(form, Why::Told) => ExplainedForm { form: *form }.answer(alloc, built, input),
             Tool::Flags => Service.answer(alloc, built, input),
             Tool::Audit => Auditor.answer(alloc, built, input),
             Tool::Check => Ok(Answer {
@@ -250,7 +302,8 @@ fn attempt<S: Source, K: Sink>(
 }
 
 /// Runs what the words ask over declarations. `verify`, `asm`, `flags` and `audit` answer as the calls of these names do for the words
-/// after them. `check` says how much of each kind is declared, and `describe` writes a file that declares the same. All other words are
+/// after them, but for `--why`, after which a refused line says why. `explain` answers the lines of `query` and more, and says why types
+/// are refused. `check` says how much of each kind is declared, and `describe` writes a file that declares the same. All other words are
 /// those of `run`.
 ///
 /// The order is: the words; the declarations, which are refused by their first fault if they have one; the whole input, if there is one;
@@ -278,8 +331,9 @@ fn rejection(tool: Tool) -> Option<&'static str>
         Tool::TablesIn(_) => Some("the tables don't fit the version"),
         Tool::Describe => Some("no file of declarations says the same"),
         Tool::Run(_) => meta_command_line::about(Ending::Rejected),
-        Tool::Verify => meta_command_line::about(Ending::Rejected),
-        Tool::Asm(_) => meta_command_line::about(Ending::Rejected),
+        Tool::Explain => meta_command_line::about(Ending::Rejected),
+        Tool::Verify(_) => meta_command_line::about(Ending::Rejected),
+        Tool::Asm(..) => meta_command_line::about(Ending::Rejected),
         Tool::Flags => meta_command_line::about(Ending::Rejected),
         Tool::Audit => meta_command_line::about(Ending::Rejected),
         Tool::Check => meta_command_line::about(Ending::Rejected),

@@ -31,6 +31,10 @@ pub const COMMANDS: &[CommandForm] = &[
         numbers: &[],
     },
     CommandForm {
+        name: "explain",
+        numbers: &[],
+    },
+    CommandForm {
         name: "recheck",
         numbers: &[],
     },
@@ -67,9 +71,9 @@ pub const COMMANDS: &[CommandForm] = &[
     },
 ];
 
-/// Gives `COMMANDS`. Words ask something exactly if they are listed, with two exceptions, since a form and a version are no numbers: `asm`
-/// is listed alone, and asks something only with a form after it, and `tables` may have a version after it. So a usage error names each
-/// command, and nothing else.
+/// Gives `COMMANDS`. Words ask something exactly if they are listed, with three exceptions, since other words than numbers aren't listed:
+/// `asm` asks something only with a form after it, which may have `--why` after it, `tables` may have a version after it, and `verify` may
+/// have `--why`. So a usage error names each command, and nothing else.
 pub fn listed_tools() -> &'static [CommandForm]
     ensures listed { (words : List (List ℕ)) → AskSomething words → AreTaken result.now words ⊎ HaveWordAfter words }
     // All words that ask something begin with a name of the list.

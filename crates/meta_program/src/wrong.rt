@@ -6,12 +6,13 @@ ghost use Rattle.meta_program.specs.Over.{asked_of};
 ghost use Rattle.meta_program.specs.TablesIn.{version_word};
 ghost use Rattle.meta_program.specs.Tool.{AskSomething};
 ghost use Rattle.meta_program.specs.Wrong.{MissFile, CheckMore, CheckRustMore, CheckEndMore, CheckRustEndMore, RustMore, VersionMore};
-ghost use Rattle.meta_program.specs.Wrong.{IsTooMany, NameNoVersion, BeginWithAsm, IsFileMissing, IsWrong, IsWrongIfAny, AskWhatIsListed};
+ghost use Rattle.meta_program.specs.Wrong.{WhyMore, IsTooMany, IsWordTooMany, NameNoVersion, BeginWithAsm, IsFileMissing, IsWrong};
+ghost use Rattle.meta_program.specs.Wrong.{IsWrongIfAny, AskWhatIsListed};
 ghost use Rattle.meta_program.specs.Wrong.{SaysFileMissing, SaysTooMany, Says, IsWrongLine};
 ghost use Rattle.meta_program.specs.declared.wrong.Wrong as spec;
 
 use super::plan::{Over, are_for_version, is_check, is_end, is_option, is_rust};
-use super::tool::is_asm;
+use super::tool::{is_asm, is_verify, is_why};
 use meta_command_line::{CommandForm, usage_line};
 use meta_types::Text;
 use std::alloc::{AllocError, Global};
@@ -113,6 +114,16 @@ fn are_version_more(words: &[Text]) -> bool
     }
 }
 
+/// Whether the words are `verify --why`, and more.
+fn are_why_more(words: &[Text]) -> bool
+    ensures { IsTrue result ↔ WhyMore words.now }
+{
+    match words {
+        [name, why, _word, _after @ ..] => is_verify(name) && is_why(why),
+        _ => false,
+    }
+}
+
 /// Whether the words are `tables --version` and no version, if there are at least three.
 fn no_version_after(
     words: &[Text],
@@ -199,6 +210,9 @@ impl Wrong {
             return Some(Wrong::WordTooMany(place));
         }
         let words = over.asked();
+        if are_why_more(words) {
+            return Some(Wrong::WordTooMany(2));
+        }
         if name_no_version(words) {
             return Some(Wrong::NoVersion);
         }
@@ -257,7 +271,7 @@ fn word_too_many(
 ) -> Result<String, AllocError>
     requires listed { AskWhatIsListed commands.now }
     requires words { words.now ≡ asked_of over.now }
-    requires place { IsTooMany over.now place }
+    requires place { IsWordTooMany over.now place }
     ensures plain { ArePlainlyNamed commands.now → IfOk result (λ line. IsPlain (string_bytes line)) }
     ensures line { IfOk result (λ line. SaysTooMany commands.now words.now place (string_bytes line)) }
 {
@@ -285,7 +299,10 @@ fn said(
         Some(Wrong::NoVersion) => {
             String::from_str(alloc, "the versions of 'tables' are 1, 2 and 3")
         }
-        Some(Wrong::NoForm) => String::from_str(alloc, "the forms of 'asm' are short and explicit"),
+        Some(Wrong::NoForm) => String::from_str(
+            alloc,
+            "the forms of 'asm' are short and explicit, each alone or with --why after it",
+        ),
         None => usage_line(alloc, commands, words),
     }
 }

@@ -9,4 +9,13 @@ mod Meant
 mod OneInference
 mod OneList
 mod OneOutput
+mod ListedLemmas
+mod TextLemmas
+mod SoughtLemmas
+mod RequestLemmas
+mod ExplanationLemmas
 pub mod TableReplies
+mod AddedLemmas
+mod OneExplanation
+mod OneExplainedOutput
+mod AcceptedExplained

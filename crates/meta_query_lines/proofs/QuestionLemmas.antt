@@ -1,10 +1,11 @@
 -- What a line asks.
+use Rattle.std.proofs.Common.{◌++◌, ap₂, subst}
 use Rattle.std.proofs.Common.{◌≡◌, ◌≢◌, ℕ, ◌<◌, ◌==◌, List, [], ◌∷◌, map, length, All, codes, Option, IfSome, false, sym, ap, ◌∙◌, arith}
 use Rattle.std.specs.List.{join_with_byte}
 use Rattle.std.specs.Option.{option_map}
-use Rattle.std.proofs.lemmas.List.Elements.{All-nil, All-cons, All-head, All-tail, All-same}
+use Rattle.std.proofs.lemmas.List.Elements.{All-nil, All-cons, All-head, All-tail, All-same, All-append}
 use Rattle.std.proofs.lemmas.List.Splits.{join_with_byte-slice_split}
-use Rattle.meta_types.specs.TypeParts.{TypeParts, IsType}
+use Rattle.meta_types.specs.TypeParts.{TypeParts, IsType, number_of}
 use Rattle.meta_types.specs.TypeNumber.{type_with, IsTypeNumber}
 use Rattle.meta_lines.specs.Words.{IsWord, pieces_of}
 use Rattle.meta_lines.specs.Control.{IsAfter, control_text}
@@ -12,7 +13,7 @@ use Rattle.meta_lines.specs.TypeList.{types_text}
 use Rattle.meta_lines.proofs.PieceLemmas.{All-slice_split}
 use Rattle.meta_lines.proofs.WordLemmas.{pieces_of-words, words_from}
 use Rattle.meta_lines.proofs.ControlLemmas.{same_controls, control_has_bytes, control_is_type}
-use Rattle.meta_lines.proofs.TypeListLemmas.{same_types, all_are_types, types_have_bytes}
+use Rattle.meta_lines.proofs.TypeListLemmas.{same_types, all_are_types, types_have_bytes, numbers_back}
 use Rattle.meta_gen.specs.Question.{Question}
 use Rattle.meta_query_lines.specs.Question.{IsQuestion, question_words_of}
 
@@ -90,3 +91,9 @@ asks line name control results values c d rs vs ck dk after rk vk h n ce re ve =
       results = all_are_types rs rk;
       values = all_are_types vs vk;
     }
+
+-- the numbers of the types of a question are those of types
+pub known_numbers : (rs vs : List ℕ) → All IsTypeNumber rs → All IsTypeNumber vs
+    → All IsTypeNumber (map number_of (map type_with rs) ++ map number_of (map type_with vs))
+known_numbers rs vs h k =
+    subst (All IsTypeNumber) (ap₂ ◌++◌ (sym (numbers_back rs h)) (sym (numbers_back vs k))) (All-append IsTypeNumber rs vs h k)

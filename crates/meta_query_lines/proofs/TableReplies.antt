@@ -137,7 +137,7 @@ module _ (t : WholeTables) where
   one_entry name Bad s h g = absurd h
   one_entry name (Results line) s h g = absurd h
 
-  one_of_tables : (q : Asked) (r s : Reply) → TablesReply t q r → TablesReply t q s → r ≡ s
+  pub one_of_tables : (q : Asked) (r s : Reply) → TablesReply t q r → TablesReply t q s → r ≡ s
   one_of_tables (OfQuestion q) r s h g = one_allowed t.opcodes q r s h g
   one_of_tables (OfInference q) r s h g = one_given q r s h g
   one_of_tables (OfSetting name) r s h g = one_entry name r s h g

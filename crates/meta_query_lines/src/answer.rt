@@ -36,7 +36,7 @@ fn accept_reply(tables: &Tables, question: &Question<'_>) -> Reply
     }
 }
 
-fn push_setting_reply(
+pub(crate) fn push_setting_reply(
     alloc: Global,
     out: &mut String,
     tables: &Tables,
@@ -84,7 +84,7 @@ fn push_accepted<'l>(
     out.push_str(reply.text())
 }
 
-fn push_inference(
+pub(crate) fn push_inference(
     out: &mut String,
     tables: &Tables,
     words: InferWords<'_>,

@@ -90,7 +90,7 @@ fn infer_words(after: &[u8]) -> Option<InferWords<'_>>
     Some(InferWords { name, control })
 }
 
-fn setting_word(after: &[u8]) -> Option<&[u8]>
+pub(crate) fn setting_word(after: &[u8]) -> Option<&[u8]>
     ensures words { IfSome result (λ name. pieces_of 32 after.now ≡ name.now ∷ []) }
     ensures named { IfSome result (λ name. 0 < length name.now) }
     ensures none { IfNone result ((name : List ℕ) → 0 < length name → pieces_of 32 after.now ≢ name ∷ []) }

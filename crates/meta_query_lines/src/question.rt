@@ -1,11 +1,14 @@
-ghost use Rattle.std.specs.Prelude.{◌≡◌, ℕ, ◌<◌, true, false, List, length, map, Option, IfOk, IfSome, IfNone};
+ghost use Rattle.std.specs.Prelude.{◌≡◌, ℕ, ◌<◌, ◌++◌, true, false, List, length, map, All, Option, IfOk, IfSome, IfNone};
 ghost use Rattle.std.specs.Option.{option_map};
 ghost use Rattle.meta_types.specs.TypeParts.{number_of};
+ghost use Rattle.meta_types.specs.TypeNumber.{IsTypeNumber};
 ghost use Rattle.meta_lines.specs.Words.{pieces_of};
 ghost use Rattle.meta_gen.specs.Question.{Question};
 ghost use Rattle.meta_query_lines.specs.Question.{IsQuestion, question_words};
+ghost use Rattle.meta_query_lines.specs.Explanation.{asked_controls};
 
 use super::form::{AcceptWords, QueryForm, form_of};
+use meta_explain::ControlTypes;
 use meta_lines::{parse_control, read_types};
 use std::alloc::{AllocError, Global};
 use std::marker::Model;
@@ -143,6 +146,19 @@ impl<'a> Question<'a> {
         ensures { result.now ≡ map number_of self.now.values }
     {
         &self.values
+    }
+
+    /// The numbers of the controlling types. The types that a line names have numbers.
+    pub(crate) fn controls(&self) -> ControlTypes
+        ensures controls { result ≡ asked_controls self.now }
+        ensures control_known { IfSome result.ctrl IsTypeNumber }
+        ensures second_known { IfSome result.second IsTypeNumber }
+        ensures operands_known { All IsTypeNumber (map number_of self.now.results ++ map number_of self.now.values) }
+    {
+        ControlTypes {
+            ctrl: self.control,
+            second: self.second,
+        }
     }
 
     /// The numbers of the results' types, as a new list.

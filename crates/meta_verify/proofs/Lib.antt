@@ -7,4 +7,6 @@ pub mod OneAnswer
 pub mod Allowed
 pub mod Meaning
 pub mod VerdictLemmas
+pub mod WhyLemmas
+pub mod OneExplained
 mod Runs

@@ -24,6 +24,7 @@ use Rattle.meta_verify.specs.Environment.{Environment, nothing_defined, with_val
 use Rattle.meta_verify.specs.Wrong.{Replies, question_of, LacksName, IsRepliedTo, IsAccepted, IsMistake, IsFaultless, IsWrong, AnswersLine}
 use Rattle.meta_verify.specs.Wrong.{Feeds}
 use Rattle.meta_verify.specs.Verdict.{LeadTo, IsAnsweredAt, AreRightTo, IsVerdict}
+use Rattle.meta_verify.specs.Why.{IsExplainedVerdict}
 use Rattle.meta_verify.proofs.OneAnswer.{right_not_wrong}
 use Rattle.meta_gen.proofs.OneReply.{one_accepted}
 use Rattle.meta_verify.proofs.Allowed.{unknown_back, allowed, unknown_forth}
@@ -248,5 +249,23 @@ module _ (d : InstructionSet) (tables : TableContents) (made : AreTablesOf d tab
         wrong = answered_means (lines_of input) n (Some reason) first.wrong;
         before = rights_mean (lines_of input) n first.before;
       },
+      is,
+    )
+
+    -- the same with what is told of a refusal
+    pub explained_means : (input : List ℕ) (is_rejection : Bool) (text : List ℕ)
+        → IsExplainedVerdict (AllowedReply tables) tables input is_rejection text
+        → IsExplainedVerdict (AcceptedReply d) tables input is_rejection text
+    unfolding answered_means
+    explained_means input false text h = verdict_means input false text h
+    explained_means input true text (n, reason, first, more, told, is) = (
+      n,
+      reason,
+      record {
+        wrong = answered_means (lines_of input) n (Some reason) first.wrong;
+        before = rights_mean (lines_of input) n first.before;
+      },
+      more,
+      told,
       is,
     )

@@ -99,7 +99,7 @@ module _ (R : Replies) (one : (q : Question) (r s : Reply) → R q r → R q s �
   one_fed env e f (c ∷ cs) a b h g = one_answer env e f (c ∷ cs) a b h g
 
   -- lines lead to at most one environment
-  one_lead : (env : Environment) (lines : List (List ℕ)) (e f : Environment) → LeadTo R env lines e → LeadTo R env lines f → e ≡ f
+  pub one_lead : (env : Environment) (lines : List (List ℕ)) (e f : Environment) → LeadTo R env lines e → LeadTo R env lines f → e ≡ f
   one_lead env [] e f h g = h ∙ sym g
   one_lead env (line ∷ lines) e f (a, m, fed, rest) (b, n, also, others) =
       one_lead n lines e f (subst (λ x. LeadTo R x lines e) (one_fed env m n line a b fed also).1 rest) others

@@ -1,18 +1,22 @@
 -- What is said of a list of lines, line by line.
 use Rattle.std.proofs.Common.{◌≡◌, ◌⊎◌, inl, inr, ℕ, zero, suc, ◌+◌, ◌<◌, ◌≤◌, List, [], ◌∷◌, ◌++◌, take, drop, length, slice_get, Option}
-use Rattle.std.proofs.Common.{None, Some, codes, refl, sym, ap, ◌∙◌, subst, append_assoc, arith}
-use Rattle.std.specs.Fmt.{decimal}
+use Rattle.std.proofs.Common.{None, Some, refl, sym, ap, ◌∙◌, subst, arith}
 use Rattle.std.proofs.lemmas.Bool.{cases_order}
 use Rattle.meta_lists.proofs.Places.{take_next, drop_next}
 use Rattle.meta_inst.specs.Tables.{TableContents}
 use Rattle.meta_gen.specs.Reply.{AllowedReply}
 use Rattle.meta_verify.specs.Environment.{Environment, nothing_defined}
-use Rattle.meta_verify.specs.Reason.{reason_text}
-use Rattle.meta_verify.specs.Wrong.{Replies, Feeds}
-use Rattle.meta_verify.specs.Verdict.{LeadTo, IsAnsweredAt, AreRightTo, AreRight, IsFirstWrong, wrong_text}
+use Rattle.meta_verify.specs.Wrong.{Replies, IsWrong, Feeds}
+use Rattle.meta_verify.specs.Verdict.{LeadTo, IsAnsweredAt, AreRightTo, AreRight, IsFirstWrong}
 use Rattle.meta_verify.specs.declared.reason.Reason.{Reason}
 use Rattle.meta_verify.proofs.OneAnswer.{right_not_wrong}
 use Rattle.meta_gen.proofs.OneReply.{one_allowed}
+
+-- a line that is answered by a reason is wrong for it, and defines nothing
+pub fed_wrong : (R : Replies) (env env' : Environment) (line : List ℕ) (reason : Reason) → Feeds R env line (Some reason) env'
+    → IsWrong R env line reason × (env' ≡ env)
+fed_wrong R env env' [] reason (none, same) = absurd (cc)
+fed_wrong R env env' (c ∷ cs) reason h = h
 
 -- one more line leads further
 leads_on : (R : Replies) (env between env' : Environment) (lines : List (List ℕ)) (line : List ℕ)
@@ -92,12 +96,25 @@ module _ (tables : TableContents) (lines : List (List ℕ)) where
     none_wrong = λ k reason l. right_not_wrong (AllowedReply tables) (one_allowed tables) lines k reason (h.each k l);
   }
 
-  -- the next line is wrong
+  -- the next line is wrong: it is the first such line, after those that lead to what is defined
   pub first_wrong : (n : ℕ) (env env' : Environment) (line : List ℕ) (rest : List (List ℕ)) (reason : Reason)
       → AreRightSoFar n env → drop n lines ≡ line ∷ rest → Feeds (AllowedReply tables) env line (Some reason) env'
-      → IsFirstWrong (AllowedReply tables) lines n reason
-  first_wrong n env env' line rest reason h e fed =
-      record { wrong = answered n env env' line rest (Some reason) h e fed; before = right_to n env h }
+      → (first : IsFirstWrong (AllowedReply tables) lines n reason) × (first.wrong.line ≡ line) × (first.wrong.before ≡ env')
+  first_wrong n env env' line rest reason h e fed = (
+    record {
+      wrong = record {
+        line = line;
+        at = at_front lines n line rest e;
+        before = env;
+        leads = h.leads;
+        after = env';
+        fed = fed;
+      };
+      before = right_to n env h;
+    },
+    refl,
+    sym (fed_wrong (AllowedReply tables) env env' line reason fed).1,
+  )
 
   -- no line is left
   pub all_right : (n : ℕ) (env : Environment) → AreRightSoFar n env → drop n lines ≡ [] → AreRight (AllowedReply tables) lines
@@ -108,12 +125,3 @@ module _ (tables : TableContents) (lines : List (List ℕ)) where
         each = λ k l. all.each k (omega (arith, l, over));
         none_wrong = λ k reason l. all.none_wrong k reason (omega (arith, l, over));
       }
-
--- the text that was put together
-pub put_together : (n : ℕ) (reason : Reason) (a b c : List ℕ) → a ≡ codes "line " ++ (decimal n ++ codes ": ")
-    → b ≡ a ++ reason_text reason → c ≡ b ++ 10 ∷ [] → c ≡ wrong_text n reason
-put_together n reason a b c first second third =
-    third ∙ ap (λ t. t ++ 10 ∷ []) (second ∙ ap (λ t. t ++ reason_text reason) first)
-    ∙ append_assoc (codes "line " ++ (decimal n ++ codes ": ")) (reason_text reason) (10 ∷ [])
-    ∙ append_assoc (codes "line ") (decimal n ++ codes ": ") (reason_text reason ++ 10 ∷ [])
-    ∙ ap (λ t. codes "line " ++ t) (append_assoc (decimal n) (codes ": ") (reason_text reason ++ 10 ∷ []))

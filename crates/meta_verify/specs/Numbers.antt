@@ -4,6 +4,7 @@
 use Rattle.std.specs.Prelude.{map, All, IfSome}
 use Rattle.std.specs.Option.{option_map}
 use Rattle.meta_types.specs.TypeNumber.{type_with, IsTypeNumber}
+use Rattle.meta_explain.specs.declared.control_types.ControlTypes.{ControlTypes}
 use Rattle.meta_verify.specs.Statement as spec
 use Rattle.meta_verify.specs.Statement.{TypedValue, IsValue}
 use Rattle.meta_verify.specs.declared.statement.TypedNumber.{TypedNumber}
@@ -14,6 +15,10 @@ use Rattle.meta_verify.specs.declared.statement.Statement.TheVariants.{Parameter
 -- the value and the type with the number
 abbrev pub typed_value_of : TypedNumber → TypedValue
 typed_value_of r = record { value = r.value; type = type_with r.number }
+
+-- the numbers of the controlling types
+abbrev pub controls_in : Application → ControlTypes
+controls_in a = record { ctrl = a.control; second = a.second }
 
 abbrev pub applied : Application → spec.Application
 applied a = record {

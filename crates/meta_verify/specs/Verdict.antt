@@ -47,9 +47,13 @@ pub record IsFirstWrong (R : Replies) (lines : List (List ℕ)) (n : ℕ) (reaso
 abbrev pub right_text : List ℕ
 right_text = codes "ok" ++ 10 ∷ []
 
--- the text on the first wrong line, by its number, which counts from 1
+-- how the text on the first wrong line begins: its number, which counts from 1, and why it is wrong
+abbrev pub wrong_front : ℕ → Reason → List ℕ
+wrong_front number reason = codes "line " ++ (decimal number ++ (codes ": " ++ reason_text reason))
+
+-- the text on the first wrong line
 abbrev pub wrong_text : ℕ → Reason → List ℕ
-wrong_text number reason = codes "line " ++ (decimal number ++ (codes ": " ++ (reason_text reason ++ 10 ∷ [])))
+wrong_text number reason = wrong_front number reason ++ 10 ∷ []
 
 -- the text on an input; it is a rejection if a line is wrong
 abbrev pub IsVerdict : Replies → List ℕ → Bool → List ℕ → Type 0

@@ -1,22 +1,31 @@
-ghost use Rattle.std.specs.Prelude.{◌≡◌, ℕ, List, Option, None, IfOk, IfSome, IfNone, OnOk, OnErr};
+ghost use Rattle.std.specs.Prelude.{◌≡◌, ◌↔◌, ◌++◌, ℕ, List, Option, None, IsTrue, IfOk, IfSome, IfNone, OnOk, OnErr, string_bytes};
 ghost use Rattle.std.specs.Option.{option_map};
 ghost use Rattle.meta_types.specs.TypeParts.{number_of};
 ghost use Rattle.meta_gen.specs.Reply.{AllowedReply};
 ghost use Rattle.meta_verify.specs.Environment.{nothing_defined, with_values, first_redefined, HasNamedTypes};
 ghost use Rattle.meta_verify.specs.Defined.{definitions};
-ghost use Rattle.meta_verify.specs.Numbers.{stated, HasTypeNumbers};
+ghost use Rattle.meta_verify.specs.Numbers.{applied, stated, HasNumbers, HasTypeNumbers};
 ghost use Rattle.meta_verify.specs.Statement as spec;
-ghost use Rattle.meta_verify.specs.Wrong.{IsMistake, IsFaultless, AnswersLine, Feeds};
+ghost use Rattle.meta_verify.specs.Why.{IsRefusedIn, IsTold, IsToldOf};
+ghost use Rattle.meta_verify.specs.Wrong.{IsMistake, IsFaultless, IsWrong, AnswersLine, Feeds};
+ghost use Rattle.meta_verify.specs.declared.reason.Reason.TheVariants.{Refused};
 
 use super::defined::define_all;
 use super::known::KnownTypes;
 use super::lists::Lists;
 use super::mistake::mistake_of;
 use super::reason::Reason;
-use super::statement::Statement;
+use super::refusal::push_why_refused;
+use super::statement::{Application, Statement};
 use meta_gen::Tables;
 use std::alloc::{AllocError, Global};
 use std::marker::Model;
+
+fn is_refused(reason: Reason) -> bool
+    ensures { IsTrue result ↔ (reason ≡ Refused) }
+{
+    matches!(reason, Reason::Refused)
+}
 
 /// The values that the lines so far define, with their types. A contract sees them by `definitions`.
 #[derive(Drop)]
@@ -73,6 +82,45 @@ impl Checker {
     {
         let mut lists = Lists::new(self.alloc);
         mistake_of(self.alloc, &self.types, tables, statement, &mut lists)
+    }
+
+    /// Adds why the instruction refuses the application, as `push_why` does for a line.
+    pub fn push_refusal(
+        &self,
+        tables: &Tables,
+        application: &Application<'_>,
+        out: &mut String,
+    ) -> Result<(), AllocError>
+        requires numbers { HasNumbers application.now }
+        requires refused { IsRefusedIn tables.now.opcodes (definitions self.now) (applied application.now) }
+        ensures { OnOk result ((more : List ℕ) × IsToldOf tables.now.opcodes (definitions self.now) (applied application.now) more
+            × (string_bytes out.new ≡ string_bytes out.old ++ more)) }
+    {
+        push_why_refused(self.alloc, &self.types, tables, application, out)
+    }
+
+    /// Adds what is told of a line after the reason for which it is wrong, by the tables. Of a line that is refused that is, after a space,
+    /// the first part that fails, what it has, and exactly what it has to be: ` value 1: v4 has i64, wants i32`. Of another line it is
+    /// nothing.
+    pub fn push_why(
+        &self,
+        tables: &Tables,
+        line: &[u8],
+        reason: Reason,
+        out: &mut String,
+    ) -> Result<(), AllocError>
+        requires { IsWrong (AllowedReply tables.now.opcodes) (definitions self.now) line.now reason }
+        ensures { OnOk result ((more : List ℕ) × IsTold tables.now.opcodes (definitions self.now) line.now reason more
+            × (string_bytes out.new ≡ string_bytes out.old ++ more)) }
+    {
+        if !is_refused(reason) {
+            return Ok(());
+        }
+        match Statement::parse(self.alloc, line)? {
+            Some(Statement::Applied(application)) => self.push_refusal(tables, &application, out),
+            Some(Statement::Parameter(_parameter)) => Ok(()),
+            None => Ok(()),
+        }
     }
 
     /// Defines the values of a statement, of which none is defined before. If memory runs out, nothing more is defined.

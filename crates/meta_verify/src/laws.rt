@@ -1,4 +1,5 @@
-ghost use Rattle.std.specs.Prelude.{◌≡◌, ◌↔◌, ℕ, List, Bool, Option};
+ghost use Rattle.std.specs.Prelude.{◌≡◌, ◌↔◌, ℕ, List, Bool, true, false, Option};
+ghost use Rattle.meta_typevar.specs.Registry.{HoldTypeSets};
 ghost use Rattle.meta_inst.specs.Faults.{IsValid};
 ghost use Rattle.meta_inst.specs.InstructionSet.{InstructionSet};
 ghost use Rattle.meta_inst.specs.Tables.{TableContents, Allows};
@@ -12,7 +13,11 @@ ghost use Rattle.meta_verify.specs.Numbers.{stated, HasTypeNumbers};
 ghost use Rattle.meta_verify.specs.Statement as spec;
 ghost use Rattle.meta_verify.specs.Verdict.{LeadTo, IsAnsweredAt, IsVerdict};
 ghost use Rattle.meta_verify.specs.Verifier.{verdicts};
+ghost use Rattle.meta_verify.specs.Why.{IsExplainedVerdict, explained_verdicts, TellsMore};
 ghost use Rattle.meta_verify.specs.Wrong.{IsMistake, IsFaultless, Feeds};
+
+use meta_explain::one_explanation;
+use meta_gen::one_table_of_an_instruction_set;
 
 /// Checking by the tables of declarations gives what the declarations mean, if the decoding of the tables allows what the declarations
 /// accept, as for tables that `generate` makes. This holds for the answer to a line after any lines before it. If the declarations are
@@ -27,6 +32,10 @@ pub fn verdicts_mean()
         → ((op : ℕ) (c e : Option ℕ) (rs vs : List ℕ) → (Allows t op c e rs vs ↔ AcceptsOpcode d.set op c e rs vs))
         → (input : List ℕ) (is_rejection : Bool) (text : List ℕ)
         → IsVerdict (AllowedReply t) input is_rejection text → verdicts d input is_rejection text }
+    ensures explained { (d : Declared) (t : TableContents) → AreValid d → AreTablesOf d.set t
+        → ((op : ℕ) (c e : Option ℕ) (rs vs : List ℕ) → (Allows t op c e rs vs ↔ AcceptsOpcode d.set op c e rs vs))
+        → (input : List ℕ) (is_rejection : Bool) (text : List ℕ)
+        → IsExplainedVerdict (AllowedReply t) t input is_rejection text → explained_verdicts d input is_rejection text }
     ensures fed { (d : InstructionSet) (t : TableContents) → IsValid d → AreTablesOf d t
         → ((op : ℕ) (c e : Option ℕ) (rs vs : List ℕ) → (Allows t op c e rs vs ↔ AcceptsOpcode d op c e rs vs))
         → (env : Environment) → HasNamedTypes env → (line : List ℕ) (answer : Option Reason) (after : Environment)
@@ -87,10 +96,27 @@ pub fn one_answer()
         → Feeds (AcceptedReply d) env line a e → Feeds (AcceptedReply d) env line b f → (a ≡ b) × (e ≡ f) }
 {}
 
-/// An input has at most one verdict: by tables, and as valid declarations mean.
+/// An input has at most one verdict, and at most one that tells why a line is refused: by tables, and as valid declarations mean.
 pub fn one_verdict()
     ensures tables { (tables : TableContents) (input : List ℕ) (a b : Bool) (s t : List ℕ)
         → IsVerdict (AllowedReply tables) input a s → IsVerdict (AllowedReply tables) input b t → (a ≡ b) × (s ≡ t) }
     ensures declared { (d : Declared) (input : List ℕ) (a b : Bool) (s t : List ℕ) → AreValid d
         → verdicts d input a s → verdicts d input b t → (a ≡ b) × (s ≡ t) }
+    ensures explained_in_tables { (tables : TableContents) (input : List ℕ) (a b : Bool) (s t : List ℕ)
+        → IsExplainedVerdict (AllowedReply tables) tables input a s
+        → IsExplainedVerdict (AllowedReply tables) tables input b t → (a ≡ b) × (s ≡ t) }
+    ensures explained_declared { (d : Declared) (input : List ℕ) (a b : Bool) (s t : List ℕ) → AreValid d → HoldTypeSets d.set.vars
+        → explained_verdicts d input a s → explained_verdicts d input b t → (a ≡ b) × (s ≡ t) }
+{
+    one_explanation();
+    one_table_of_an_instruction_set();
+}
+
+/// What is told of a refusal stands after the plain text: an input is accepted, by `ok`, exactly where it is without, and else the text is
+/// the plain one, with more after `refused`.
+pub fn explained_verdicts_are_verdicts()
+    ensures accepted { (d : Declared) (input text : List ℕ)
+        → (explained_verdicts d input false text ↔ verdicts d input false text) }
+    ensures rejected { (d : Declared) (input text : List ℕ) → explained_verdicts d input true text
+        → (plain : List ℕ) × verdicts d input true plain × TellsMore plain text }
 {}

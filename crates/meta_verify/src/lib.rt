@@ -4,6 +4,7 @@
 //! `verify` says the same for a whole input, over declarations.
 #![tactic(auto)]
 
+mod answers;
 mod checker;
 mod defined;
 mod known;
@@ -11,17 +12,19 @@ mod laws;
 mod lists;
 mod mistake;
 mod reason;
+mod refusal;
 mod statement;
 mod verdict;
 mod verifier;
 
+pub use answers::{accepted, rejection};
 pub use checker::Checker;
 pub use laws::{
-    mistakes_mean, one_answer, one_mistake, one_statement, one_verdict, types_stay_named,
-    verdicts_mean,
+    explained_verdicts_are_verdicts, mistakes_mean, one_answer, one_mistake, one_statement,
+    one_verdict, types_stay_named, verdicts_mean,
 };
 pub use meta_run::Ending as VerifyStatus;
 pub use reason::Reason;
 pub use statement::{Application, Statement, TypedNumber};
-pub use verdict::wrong_line;
-pub use verifier::{Verifier, verify};
+pub use verdict::{WrongLine, explained_line, told_line, wrong_line};
+pub use verifier::{Explaining, Verifier, verify};

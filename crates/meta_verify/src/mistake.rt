@@ -15,7 +15,7 @@ use meta_gen::Tables;
 use std::alloc::{AllocError, Global};
 
 /// Puts the numbers of the types of the results into the list, in place of what it had.
-fn put_numbers(results: &[TypedNumber], numbers: &mut Vec<u16>) -> Result<(), AllocError>
+pub(crate) fn put_numbers(results: &[TypedNumber], numbers: &mut Vec<u16>) -> Result<(), AllocError>
     ensures { OnOk result (numbers.new.items ≡ map (λ r. r.number) results.now) }
 {
     numbers.clear();

@@ -2,7 +2,7 @@ ghost use Rattle.meta_run.specs.Run.{IsWordlessRun, RunsWordless};
 ghost use Rattle.meta_verify.specs.Verifier.{verdicts, ChecksLines};
 
 use super::laws::verdicts_mean;
-use super::verdict::verdict;
+use super::verdict::{explained_verdict, verdict};
 use meta_build::{Built, Declarations, one_first_fault};
 use meta_gen::tables_of;
 use meta_run::{Answer, Answerer, Ending, run_answerer};
@@ -31,6 +31,31 @@ impl Answerer for Verifier {
         let _declarations = built.declarations();
         let tables = tables_of(alloc, built)?;
         verdict(alloc, &tables, input)
+    }
+}
+
+/// The answerer of `verify` that also tells why a line is refused: it answers an input as `Verifier` does, but for what it tells after
+/// `refused`.
+#[derive(Clone, Copy)]
+pub struct Explaining;
+
+impl Answerer for Explaining {
+    ghost use Rattle.std.specs.Prelude.{true};
+    ghost use Rattle.meta_verify.specs.Why.{explained_verdicts};
+
+    ghost reads = { λ _. true };
+
+    ghost texts = { λ _. explained_verdicts };
+
+    fn has_input(&self) -> bool {
+        true
+    }
+
+    fn answer(&self, alloc: Global, built: &Built<'_>, input: &[u8]) -> Result<Answer, AllocError> {
+        verdicts_mean();
+        let _declarations = built.declarations();
+        let tables = tables_of(alloc, built)?;
+        explained_verdict(alloc, &tables, input)
     }
 }
 

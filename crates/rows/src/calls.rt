@@ -1,8 +1,11 @@
 use meta_asm::print_line;
 use meta_flags::{FlagError, FlagValue, Flags};
 use meta_gen::Tables;
+use meta_query_lines::push_explained;
+use meta_table_reader::{TextError, read_tables};
+use meta_table_text::{Version, table_text};
 use meta_verify::Checker;
-use rows_base::{Answer, Case, Outside, Trouble, number};
+use rows_base::{Answer, Case, Outside, Trouble, number, write_bytes};
 use std::alloc::Global;
 use std::str;
 
@@ -129,5 +132,25 @@ pub(crate) fn write_fed(
         }
         let _reason = checker.feed(tables, line.as_bytes())?;
     }
+    Ok(())
+}
+
+/// Reads the text of the tables, and writes what the tables that were read answer to the lines of the input. They have no names of operands,
+/// and no marks.
+pub(crate) fn write_explained(
+    alloc: Global,
+    tables: &Tables,
+    input: &[u8],
+    case: &mut Case<'_>,
+) -> Answer {
+    let text = table_text(alloc, Version::Three, tables)?;
+    let read = match read_tables(alloc, text.as_bytes()) {
+        Ok(read) => read,
+        Err(TextError::Refused) => return Err(Trouble::NoCase),
+        Err(TextError::OutOfMemory) => return Err(Trouble::OutOfMemory),
+    };
+    let mut answers = String::new(alloc);
+    push_explained(alloc, &mut answers, &read, None, input)?;
+    write_bytes(case, answers.as_bytes());
     Ok(())
 }

@@ -1,5 +1,5 @@
 use super::asking::PATH;
-use super::calls::{write_calls, write_fed};
+use super::calls::{write_calls, write_explained, write_fed};
 use super::describing::ask_description;
 use super::each::write_readings;
 use meta_audit::audit;
@@ -73,6 +73,7 @@ fn ask_tables(
         "reread" => write_readings(alloc, tables, input, case),
         "calls" => write_calls(alloc, outside, tables, input, case),
         "fed" | "shortened" => write_fed(alloc, tables, input, word, case),
+        "explained" => write_explained(alloc, tables, input, case),
         _ => rows_tables::ask_tables(alloc, tables, word, case),
     }
 }

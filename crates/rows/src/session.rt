@@ -42,8 +42,9 @@ const ROOM: usize = 1_048_576;
 /// `ask_tables`. `? reread lines FROM TO`, `? reread fronts FROM TO` and `? reread changes FROM TO` read the fronts of the input that end
 /// there with a line, all of its fronts there, or the input with each byte there changed. They write how many are no tables, other tables,
 /// or those that are declared. `? calls GROUP` makes the calls that the lines of the input name on the settings of a group, `? fed` feeds
-/// the lines to a checker, and `? shortened` writes their short forms. `? audited TIMES` asks the auditor this many times about the tables
-/// in memory, and `? generated TIMES` makes the tables this many times.
+/// the lines to a checker, and `? shortened` writes their short forms. `? explained` writes what the tables answer to the lines after their
+/// text was read. `? audited TIMES` asks the auditor this many times about the tables in memory, and `? generated TIMES` makes the tables
+/// this many times.
 #[derive(Drop)]
 pub(crate) struct Session<'d> {
     alloc: Global,

@@ -1,5 +1,4 @@
-use Rattle.std.proofs.Common.{◌≡◌, Bool, true, false, sym, ◌∙◌, subst, string_bytes, arith, rules}
-use Rattle.std.proofs.lemmas.Result.{IfOk-weaker}
+use Rattle.std.proofs.Common.{◌≡◌, Bool, true, false, List, ℕ, sym, ◌∙◌, subst, string_bytes, arith, rules}
 use Rattle.meta_lines.specs.Lines.{lines_of}
 use Rattle.meta_lines.proofs.LineLemmas.{few_lines}
 use Rattle.meta_gen.specs.Reply.{AllowedReply}
@@ -34,10 +33,9 @@ returns-then-not-branch c =
     (definitions c.loop-line.checker) c.in-Some.line.now _ c.loop-line.invariant.read
     (at_front (lines_of c.args.input.now) c.loop-line.number c.in-Some.line.now c.next.new.self next)
     (c.in_ok-push_read_line.ensures.some off) (c.in_ok-push_read_line.ensures.unread off) in
-    IfOk-weaker c.rejection.result _ _
-    (λ answer h. subst (λ (b : Bool). IsSpelled (AllowedReply c.args.tables.now.opcodes)
-    (IsMannerIn c.args.tables.now.opcodes) c.args.input.now b (string_bytes answer.text)) (sym h.0) (c.loop-line.number, first, h.1))
-    c.rejection.ensures
+    subst (λ (b : Bool). IsSpelled (AllowedReply c.args.tables.now.opcodes) (IsMannerIn c.args.tables.now.opcodes) c.args.input.now b
+    (string_bytes c.rejection.result.text)) (sym c.rejection.ensures.rejects)
+    (c.loop-line.number, first, c.rejection.ensures.text ∙ c.in_ok-wrong_line.ensures)
 
 pub loop-line-preserved : goal.loop-line-preserved
 loop-line-preserved c =
@@ -53,5 +51,9 @@ loop-line-preserved c =
 
 pub returns : goal.returns
 returns c =
-    all_read c.args.tables.now.opcodes (lines_of c.args.input.now) c.loop-line.number _ _ c.loop-line.invariant.read
-    (c.loop-line.invariant.left ∙ c.in-None.ensures.steps.0)
+    let all = all_read c.args.tables.now.opcodes (lines_of c.args.input.now) c.loop-line.number _ _ c.loop-line.invariant.read
+    (c.loop-line.invariant.left ∙ c.in-None.ensures.steps.0) in
+    let R = AllowedReply c.args.tables.now.opcodes in
+    let M = IsMannerIn c.args.tables.now.opcodes in
+    subst (λ (b : Bool). IsSpelled R M c.args.input.now b (string_bytes c.accepted.result.text)) (sym c.accepted.ensures.accepts)
+    (subst (λ (t : List ℕ). IsSpelled R M c.args.input.now false t) (sym c.accepted.ensures.text) all)

@@ -2,4 +2,4 @@ use Rattle.meta_program.proofs.OneTool.{same_tool}
 use Rattle.meta_program.proofs.laws.one_tool.Goals as goal
 
 pub returns : goal.returns
-returns c = same_tool c.one_command.ensures c.one_form.ensures
+returns c = same_tool c.one_command.ensures

@@ -25,6 +25,6 @@ returns-in-Some-NoVersion-clause-plain c = λ named.
 pub returns-in-Some-NoForm-clause-plain : goal.returns-in-Some-NoForm-clause-plain
 returns-in-Some-NoForm-clause-plain c = λ named.
     IfOk-weaker c.from_str-in-Some-NoForm.result _ _ (λ text e.
-    let is : string_bytes text ≡ codes "the forms of 'asm' are short and explicit" = search (rules, e) in
-    plain_line (codes "the forms of 'asm' are short and explicit") (string_bytes text) refl is)
+    let is : string_bytes text ≡ codes "the forms of 'asm' are short and explicit, each alone or with --why after it" = search (rules, e) in
+    plain_line (codes "the forms of 'asm' are short and explicit, each alone or with --why after it") (string_bytes text) refl is)
     c.from_str-in-Some-NoForm.ensures.ok

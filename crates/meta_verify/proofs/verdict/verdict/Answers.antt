@@ -1,58 +1,30 @@
-use Rattle.std.proofs.Common.{◌≡◌, Option, sym, ◌∙◌, subst, arith}
+use Rattle.std.proofs.Common.{ℕ, Bool, Option, IfSome, IfNone, string_bytes, sym, ap, ◌∙◌, subst}
+use Rattle.std.proofs.lemmas.Result.{IfOk-weaker}
 use Rattle.meta_lines.specs.Lines.{lines_of}
-use Rattle.meta_lines.proofs.LineLemmas.{few_lines}
 use Rattle.meta_gen.specs.Reply.{AllowedReply}
-use Rattle.meta_verify.specs.Environment.{Environment}
 use Rattle.meta_verify.specs.Defined.{definitions}
-use Rattle.meta_verify.specs.Wrong.{Feeds}
-use Rattle.meta_verify.specs.declared.reason.Reason.{Reason}
-use Rattle.meta_verify.proofs.VerdictLemmas.{left_next, few_so_far, AreRightSoFar, none_so_far, one_right, first_wrong, all_right}
+use Rattle.meta_verify.specs.Verdict.{wrong_text, AreRight, IsVerdict}
+use Rattle.meta_verify.specs.Why.{IsFoundWrong}
+use Rattle.meta_verify.specs.declared.verdict.WrongLine.{WrongLine}
 use Rattle.meta_verify.proofs.verdict.verdict.Goals as goal
 
-pub loop-line-init : goal.loop-line-init
-loop-line-init c =
-    let all : c.into_iter-line-iterator.result ≡ lines_of c.args.input.now = cc in
-    record {
-      left = sym all;
-      right = subst (λ (e : Environment). AreRightSoFar c.args.tables.now.opcodes (lines_of c.args.input.now) 0 e)
-          (sym c.new-checker.ensures) (none_so_far c.args.tables.now.opcodes (lines_of c.args.input.now));
-    }
-
-pub overflow_add-number : goal.overflow_add-number
-overflow_add-number c =
-    let so_far = few_so_far (lines_of c.args.input.now) c.loop-line.number c.in-Some.line.now c.next.new.self
-    (c.loop-line.invariant.left ∙ c.in-Some.ensures.steps) in
-    let few = few_lines c.args.input.now in
-    let within = c.requires.within in
-    omega (arith, so_far, few, within)
-
-pub returns-in-Some-2 : goal.returns-in-Some-2
-returns-in-Some-2 c =
+pub returns-in-None : goal.returns-in-None
+returns-in-None c =
     let R = AllowedReply c.args.tables.now.opcodes in
-    let next = c.loop-line.invariant.left ∙ c.in-Some.ensures.steps in
-    let first = first_wrong c.args.tables.now.opcodes (lines_of c.args.input.now) c.loop-line.number
-    (definitions c.loop-line.checker) (definitions c.feed.new.self) c.in-Some.line.now c.next.new.self
-    c.in-Some-2.reason c.loop-line.invariant.right next
-    (subst (λ (o : Option Reason). Feeds R (definitions c.loop-line.checker) c.in-Some.line.now o
-    (definitions c.feed.new.self)) c.in-Some-2.is c.in_ok-reason.ensures.fed) in
-    (c.loop-line.number, c.in-Some-2.reason, first, c.in_ok-wrong_line.ensures)
-
-pub loop-line-preserved : goal.loop-line-preserved
-loop-line-preserved c =
-    let R = AllowedReply c.args.tables.now.opcodes in
-    let next = c.loop-line.invariant.left ∙ c.in-Some.ensures.steps in
-    record {
-      left = left_next (lines_of c.args.input.now) c.loop-line.number c.in-Some.line.now c.next.new.self next;
-      right = one_right c.args.tables.now.opcodes (lines_of c.args.input.now) c.loop-line.number
-          (definitions c.loop-line.checker) (definitions c.feed.new.self) c.in-Some.line.now c.next.new.self
-          c.loop-line.invariant.right next
-          (subst (λ (o : Option Reason). Feeds R (definitions c.loop-line.checker) c.in-Some.line.now o
-          (definitions c.feed.new.self)) c.in_default.is c.in_ok-reason.ensures.fed);
-    }
+    let right = subst (λ (o : Option WrongLine). IfNone o (AreRight R (lines_of c.args.input.now))) c.in-None.is
+    c.in_ok-first_wrong.ensures.right in
+    IfOk-weaker c.right.result _ _
+    (λ answer h. subst (λ (b : Bool). IsVerdict R c.args.input.now b (string_bytes answer.text)) (sym h.0) (right, h.1))
+    c.right.ensures
 
 pub returns : goal.returns
-returns c = (
-  all_right c.args.tables.now.opcodes (lines_of c.args.input.now) c.loop-line.number
-      (definitions c.loop-line.checker) c.loop-line.invariant.right (c.loop-line.invariant.left ∙ c.in-None.ensures.steps.0),
-  c.in_ok-from_str.ensures.ok,
-)
+returns c =
+    let R = AllowedReply c.args.tables.now.opcodes in
+    let found = subst (λ (o : Option WrongLine). IfSome o (IsFoundWrong R (lines_of c.args.input.now)
+    (definitions c.first_wrong.new.checker))) c.in-Some.is c.in_ok-first_wrong.ensures.wrong in
+    subst (λ (b : Bool). IsVerdict R c.args.input.now b (string_bytes c.rejection.result.text)) (sym c.rejection.ensures.rejects) (
+      found.place,
+      c.in-Some.wrong.reason,
+      found.first,
+      c.rejection.ensures.text ∙ c.in_ok-wrong_line-in-Some.ensures ∙ ap (λ (k : ℕ). wrong_text k c.in-Some.wrong.reason) found.number,
+    )

@@ -3,7 +3,7 @@ use Rattle.meta_lines.specs.Lines.{lines_of}
 use Rattle.meta_verify.specs.Defined.{definitions}
 use Rattle.meta_verify.proofs.VerdictLemmas.{AreRightSoFar}
 use Rattle.meta_asm.proofs.ListingLemmas.{AreWritten}
-use Rattle.meta_asm.proofs.listing.shortened.Given as goal
+use Rattle.meta_asm.proofs.listing.push_short_forms.Given as goal
 
 -- the lines so far are right, lead to what is defined, and their short forms were written, and the others are left
 abbrev pub invariant-loop-line : goal.invariant-loop-line
